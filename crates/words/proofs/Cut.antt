@@ -9,37 +9,38 @@ use native.Mathlib.Omega.{arith}
 use lib.ListN.{length, take, drop, getD}
 use Rattle.std.specs.shelf.Lists.{leading}
 use Rattle.std.proofs.shelf.Lists.{take-all, at-drop-more, at-drop-all}
-use Rattle.words.specs.Words.{separates, wordsOf, longer}
+use Rattle.words.specs.Words.{separates, splitBy, wordsOf, longer}
 
-abbrev pub wordLen : List ℕ → ℕ
-wordLen xs = leading (λ b. not (separates b)) xs
+-- how many bytes stand before the first that passes a test
+abbrev pub before : (ℕ → Bool) → List ℕ → ℕ
+before p xs = leading (λ b. not (p b)) xs
 
-pub cut-more : (xs : List ℕ) → wordLen xs < length xs → wordsOf xs ≡ take (wordLen xs) xs ∷ wordsOf (drop (wordLen xs + 1) xs)
-cut-more [] h = absurd (omega arith)
-cut-more (b ∷ bs) h =
-    let P : Bool → Type 0 = λ t. cond (not t) (1 + wordLen bs) 0 < suc (length bs) → cond t ([] ∷ wordsOf bs) (longer b (wordsOf bs)) ≡ take (cond (not t) (1 + wordLen bs) 0) (b ∷ bs) ∷ wordsOf (drop (cond (not t) (1 + wordLen bs) 0 + 1) (b ∷ bs)) in
+pub cut-more : (p : ℕ → Bool) (xs : List ℕ) → before p xs < length xs → splitBy p xs ≡ take (before p xs) xs ∷ splitBy p (drop (before p xs + 1) xs)
+cut-more p [] h = absurd (omega arith)
+cut-more p (b ∷ bs) h =
+    let P : Bool → Type 0 = λ t. cond (not t) (1 + before p bs) 0 < suc (length bs) → cond t ([] ∷ splitBy p bs) (longer b (splitBy p bs)) ≡ take (cond (not t) (1 + before p bs) 0) (b ∷ bs) ∷ splitBy p (drop (cond (not t) (1 + before p bs) 0 + 1) (b ∷ bs)) in
     let at : (t : Bool) → P t = λ t. elim t as P [
       | true ↦ λ _. refl
-      | false ↦ λ lt. rw (one-add, suc-add) (ap (longer b) (cut-more bs (omega arith)))
+      | false ↦ λ lt. rw (one-add, suc-add) (ap (longer b) (cut-more p bs (omega arith)))
     ] in
-    at (separates b) h
+    at (p b) h
 
-pub cut-last : (xs : List ℕ) → length xs ≤ wordLen xs → wordsOf xs ≡ take (wordLen xs) xs ∷ []
-cut-last [] h = refl
-cut-last (b ∷ bs) h =
-    let P : Bool → Type 0 = λ t. suc (length bs) ≤ cond (not t) (1 + wordLen bs) 0 → cond t ([] ∷ wordsOf bs) (longer b (wordsOf bs)) ≡ take (cond (not t) (1 + wordLen bs) 0) (b ∷ bs) ∷ [] in
+pub cut-last : (p : ℕ → Bool) (xs : List ℕ) → length xs ≤ before p xs → splitBy p xs ≡ take (before p xs) xs ∷ []
+cut-last p [] h = refl
+cut-last p (b ∷ bs) h =
+    let P : Bool → Type 0 = λ t. suc (length bs) ≤ cond (not t) (1 + before p bs) 0 → cond t ([] ∷ splitBy p bs) (longer b (splitBy p bs)) ≡ take (cond (not t) (1 + before p bs) 0) (b ∷ bs) ∷ [] in
     let at : (t : Bool) → P t = λ t. elim t as P [
       | true ↦ λ lt. absurd (omega arith)
-      | false ↦ λ lt. rw one-add (ap (longer b) (cut-last bs (omega arith)))
+      | false ↦ λ lt. rw one-add (ap (longer b) (cut-last p bs (omega arith)))
     ] in
-    at (separates b) h
+    at (p b) h
 
--- the same, as the code has it: n is what `word_end` answered
-pub taken : (xs : List ℕ) (n : ℕ) → n ≡ wordLen xs → n < length xs → wordsOf xs ≡ take n xs ∷ wordsOf (drop (n + 1) xs)
-taken xs n e h = rw e (cut-more xs (rw e at h))
+-- the same, as the code has it: n is the place that it found
+pub taken : (p : ℕ → Bool) (xs : List ℕ) (n : ℕ) → n ≡ before p xs → n < length xs → splitBy p xs ≡ take n xs ∷ splitBy p (drop (n + 1) xs)
+taken p xs n e h = rw e (cut-more p xs (rw e at h))
 
-pub taken-last : (xs : List ℕ) (n : ℕ) → n ≡ wordLen xs → n ≡ length xs → wordsOf xs ≡ xs ∷ []
-taken-last xs n e h = cut-last xs (omega arith) ∙ ap (λ w. w ∷ []) (take-all (wordLen xs) xs (omega arith))
+pub taken-last : (p : ℕ → Bool) (xs : List ℕ) (n : ℕ) → n ≡ before p xs → n ≡ length xs → splitBy p xs ≡ xs ∷ []
+taken-last p xs n e h = cut-last p xs (omega arith) ∙ ap (λ w. w ∷ []) (take-all (before p xs) xs (omega arith))
 
 pub same-longer : (b : ℕ) (ws : List (List ℕ)) → 0 < length ws → length (longer b ws) ≡ length ws
 same-longer b [] h = absurd (omega arith)

@@ -28,6 +28,12 @@ joinedText Bare s = spaces s
 joinedText Front s = 124 ∷ spaces s
 joinedText Both s = 124 ∷ (spaces s ++ 124 ∷ [])
 
+-- the bars of a front part of a text that does not reach its end
+abbrev pub frontBars : Bars → Bars
+frontBars Bare = Bare
+frontBars Front = Front
+frontBars Both = Front
+
 -- what the words of a line are, for every line: no word holds a separator, and the words joined are the line with a space for each
 -- separator
 pub record WordsApart : Type 0 where

@@ -43,6 +43,34 @@ kinds =
     ToolVersion ∷ MkQuant ∷ MkVar ∷ MkApp ∷ AttachMeaning ∷ AttachVarNames ∷ Eof ∷ MkLambda ∷ MkProof ∷ AttachEnode ∷ EqExpl ∷ NewMatch ∷
     InstDiscovered ∷ Instance ∷ EndOfInstance ∷ DecideAndOr ∷ Decide ∷ Assign ∷ Push ∷ Pop ∷ BeginCheck ∷ QueryDone ∷ ResolveProcess ∷ ResolveLit ∷ Conflict ∷ []
 
+-- the kinds counted from 0, in that order
+abbrev pub numberOf : LineKind → ℕ
+numberOf ToolVersion = 0
+numberOf MkQuant = 1
+numberOf MkVar = 2
+numberOf MkApp = 3
+numberOf AttachMeaning = 4
+numberOf AttachVarNames = 5
+numberOf Eof = 6
+numberOf MkLambda = 7
+numberOf MkProof = 8
+numberOf AttachEnode = 9
+numberOf EqExpl = 10
+numberOf NewMatch = 11
+numberOf InstDiscovered = 12
+numberOf Instance = 13
+numberOf EndOfInstance = 14
+numberOf DecideAndOr = 15
+numberOf Decide = 16
+numberOf Assign = 17
+numberOf Push = 18
+numberOf Pop = 19
+numberOf BeginCheck = 20
+numberOf QueryDone = 21
+numberOf ResolveProcess = 22
+numberOf ResolveLit = 23
+numberOf Conflict = 24
+
 -- the first of some kinds whose text is w
 abbrev pub kindAmong : List ℕ → List LineKind → Option LineKind
 kindAmong w [] = None

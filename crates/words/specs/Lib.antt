@@ -1,3 +1,4 @@
 pub mod Words
 pub mod Joined
 pub mod Kinds
+pub mod Laid

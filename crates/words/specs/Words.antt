@@ -18,10 +18,14 @@ abbrev pub longer : ℕ → List (List ℕ) → List (List ℕ)
 longer b [] = (b ∷ []) ∷ []
 longer b (w ∷ ws) = (b ∷ w) ∷ ws
 
+-- the pieces between the bytes that pass a test; a piece may be empty, and there is always one
+abbrev pub splitBy : (ℕ → Bool) → List ℕ → List (List ℕ)
+splitBy p [] = [] ∷ []
+splitBy p (b ∷ bs) = cond (p b) ([] ∷ splitBy p bs) (longer b (splitBy p bs))
+
 -- the words of a line, in order; word 0 is its kind
 abbrev pub wordsOf : List ℕ → List (List ℕ)
-wordsOf [] = [] ∷ []
-wordsOf (b ∷ bs) = cond (separates b) ([] ∷ wordsOf bs) (longer b (wordsOf bs))
+wordsOf s = splitBy separates s
 
 -- what a cursor has still to give: nothing once the last word is given
 abbrev pub ahead : Option (RefT (List ℕ)) → List (List ℕ)

@@ -3,7 +3,7 @@ ghost use mathlib.Core.Path.{_≡_};
 ghost use Prim.Native.Nat.{_+_};
 ghost use lib.ListN.{length};
 ghost use Rattle.std.specs.shelf.Maps.{nth};
-ghost use Rattle.words.specs.Joined.{asSpace, joinedText, spaces};
+ghost use Rattle.words.specs.Joined.{asSpace, frontBars, joinedText, spaces};
 use super::cursor::is_separator;
 
 // Which bars stand around a joined text.
@@ -12,6 +12,18 @@ pub enum Bars {
     Bare,
     Front,
     Both,
+}
+
+impl Bars {
+    // The bars around a front part of a text that does not reach its end.
+    pub fn without_last(self) -> Bars
+        ensures { λ r. ⌜ r ≡ frontBars self ⌝ }
+    {
+        match self {
+            Bars::Bare => Bars::Bare,
+            Bars::Front | Bars::Both => Bars::Front,
+        }
+    }
 }
 
 // A text: the bytes of `span` with a space for each separator, and its bars.

@@ -1,7 +1,8 @@
 // The kind of a line, which its word 0 tells.
+ghost use Prim.Native.Nat.{_<_};
 ghost use mathlib.Core.Path.{_≡_};
 ghost use Rattle.std.specs.shelf.Text.{sameBytes};
-ghost use Rattle.words.specs.Kinds.{KindsByText, kindOf, textOf};
+ghost use Rattle.words.specs.Kinds.{KindsByText, kindOf, numberOf, textOf};
 
 // The kinds that are known: six that are read, the end mark, and eighteen that are passed over.
 #[derive(Clone, Copy, Debug)]
@@ -99,6 +100,14 @@ impl LineKind {
             LineKind::ResolveLit => b"[resolve-lit]",
             LineKind::Conflict => b"[conflict]",
         }
+    }
+
+    // The place of the kind among `KINDS`.
+    pub fn number(self) -> usize
+        ensures value { λ r. ⌜ r ≡ numberOf self ⌝ }
+        ensures bound { λ r. ⌜ r < 25 ⌝ }
+    {
+        self as usize
     }
 
     // The kind of a line whose word 0 is `word`, none where it is no known kind. A kind is told exactly by its own text.

@@ -1,0 +1,4 @@
+pub mod Layers
+pub mod Counting
+pub mod Quants
+pub mod Pieces

@@ -1,0 +1,4 @@
+pub mod AppNames
+pub mod Writing
+pub mod QuantNames
+pub mod QuantKinds
