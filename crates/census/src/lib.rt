@@ -3,6 +3,7 @@ mod count;
 mod record;
 
 pub use count::classify;
+pub use count::count_lines;
 pub use record::BadId;
 pub use record::BadIdDebug;
 pub use record::BadIdEq;

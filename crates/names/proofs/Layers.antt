@@ -87,14 +87,6 @@ pub tail-some : (ms : List (List ℕ)) → 1 ≤ length (tail ms)
 tail-some [] = omega arith
 tail-some (w ∷ ms) = omega (arith, tail-long w ms)
 
-pub from-first : (ms ns : List (List ℕ)) (w : List ℕ) → Some w ≡ firstOf ms → ns ≡ restOf ms → ms ≡ w ∷ ns
-from-first [] ns w e h = let z : _≡_ {A = ℕ} 0 1 = cc in absurd (omega arith)
-from-first (m ∷ ms) ns w e h = cc
-
-pub none-first : (ms : List (List ℕ)) → None ≡ firstOf ms → ms ≡ []
-none-first [] e = refl
-none-first (m ∷ ms) e = let z : _≡_ {A = ℕ} 0 1 = cc in absurd (omega arith)
-
 -- what a write to a part of the memory leaves, at both ways of fitting
 pub put-fits : (n k : ℕ) (xs ys m : List ℕ) → ys ≡ xs → k ≡ length xs → n + length xs ≤ length m → putMid n k m ys ≡ laidAt n xs m
 put-fits n k xs ys m e p h =

@@ -9,7 +9,8 @@ use native.Mathlib.Omega.{arith}
 use lib.ListN.{length, take, drop, getD}
 use Rattle.std.specs.shelf.Lists.{leading}
 use Rattle.std.proofs.shelf.Lists.{take-all, at-drop-more, at-drop-all}
-use Rattle.words.specs.Words.{separates, splitBy, wordsOf, longer}
+use Rattle.std.specs.declared.option.Option.the-variants.{Some, None}
+use Rattle.words.specs.Words.{separates, splitBy, wordsOf, longer, firstOf, restOf}
 
 -- how many bytes stand before the first that passes a test
 abbrev pub before : (ℕ → Bool) → List ℕ → ℕ
@@ -68,3 +69,12 @@ count-more xs i h = at-drop-more (λ l. length (wordsOf l)) xs i 0 h ∙ count-c
 
 pub count-all : (xs : List ℕ) (i : ℕ) → length xs ≤ i → length (wordsOf (drop i xs)) ≡ 1
 count-all xs i h = at-drop-all (λ l. length (wordsOf l)) xs i h
+
+-- the first of some words, and those behind it
+pub from-first : (ms ns : List (List ℕ)) (w : List ℕ) → Some w ≡ firstOf ms → ns ≡ restOf ms → ms ≡ w ∷ ns
+from-first [] ns w e h = let z : _≡_ {A = ℕ} 0 1 = cc in absurd (omega arith)
+from-first (m ∷ ms) ns w e h = cc
+
+pub none-first : (ms : List (List ℕ)) → None ≡ firstOf ms → ms ≡ []
+none-first [] e = refl
+none-first (m ∷ ms) e = let z : _≡_ {A = ℕ} 0 1 = cc in absurd (omega arith)

@@ -6,7 +6,8 @@ use lib.ListN.{length}
 use Rattle.words.specs.Words.{ahead}
 use Rattle.names.specs.AppNames.{named}
 use Rattle.names.specs.Writing.{laidAt, tail}
-use Rattle.names.proofs.Layers.{at-word, tail-long, tail-some, from-first, none-first, no-name}
+use Rattle.words.proofs.Cut.{from-first, none-first}
+use Rattle.names.proofs.Layers.{at-word, tail-long, tail-some, no-name}
 use Rattle.names.proofs.app.join_rest.Needs as need
 use Rattle.names.proofs.app.join_rest.Needs.{In-Some}
 

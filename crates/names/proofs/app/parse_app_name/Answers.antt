@@ -9,7 +9,8 @@ use Rattle.words.specs.Joined.{unwords}
 use Rattle.words.specs.Laid.{laid}
 use Rattle.names.specs.AppNames.{NameRead, named, children, nameRead, nameLong, scratchAfter, childWords, orElse, joinedName, barred}
 use Rattle.names.specs.Writing.{tail}
-use Rattle.names.proofs.Layers.{from-first, none-first, no-name, name-found, name-size, whole-laid, tail-long, joined-long}
+use Rattle.words.proofs.Cut.{from-first, none-first}
+use Rattle.names.proofs.Layers.{no-name, name-found, name-size, whole-laid, tail-long, joined-long}
 use Rattle.names.proofs.app.parse_app_name.Needs as need
 use Rattle.names.proofs.app.parse_app_name.Needs.{In-Continue-first, In-Some}
 

@@ -11,7 +11,7 @@ use Rattle.ids.specs.Numbers.{small}
 use Rattle.words.specs.Words.{ahead, wordsOf, firstOf, restOf}
 use Rattle.words.specs.Joined.{joinedText}
 use Rattle.names.specs.QuantNames.{QuantRead, ofWords, countWord, counted, quantText, behind, nameWords}
-use Rattle.names.proofs.Layers.{from-first}
+use Rattle.words.proofs.Cut.{from-first}
 use Rattle.names.proofs.Quants.{within, front-some, text-of, drop-rest}
 use Rattle.names.proofs.quant.parse_qid.Needs as need
 

@@ -9,7 +9,7 @@ use Rattle.std.specs.declared.option.Option.the-variants.{Some}
 use Rattle.ids.specs.Numbers.{small}
 use Rattle.words.specs.Words.{ahead}
 use Rattle.names.specs.QuantNames.{upToBar, closes}
-use Rattle.names.proofs.Layers.{from-first, none-first}
+use Rattle.words.proofs.Cut.{from-first, none-first}
 use Rattle.names.proofs.Counting.{later, ahead-few, count-stop, count-on}
 use Rattle.names.proofs.quant.up_to_bar.Needs as need
 use Rattle.names.proofs.quant.up_to_bar.Needs.{In-Some}
