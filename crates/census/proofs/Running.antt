@@ -137,20 +137,20 @@ zero-at (suc n) (suc i) = zero-at n i
 -- before the first line
 pub running-start : (all : List (List ℕ)) (b : List BadId) → Running all all (record { lines = 0; kinds = replicate 25 0; unknown = 0; «too_long» = 0; «good_ids» = 0; «bad_ids» = 0 }) b b
 running-start all b = record {
-    gone = [];
-    split = refl;
-    census = record { lines = refl; kinds = λ k. zero-at 25 (numberOf k); places = refl; unknown = refl; tooLong = refl; good = refl; bad = refl; told = refl };
-    few = λ i. omega (arith, zero-at 25 i);
-  }
+  gone = [];
+  split = refl;
+  census = record { lines = refl; kinds = λ k. zero-at 25 (numberOf k); places = refl; unknown = refl; tooLong = refl; good = refl; bad = refl; told = refl };
+  few = λ i. omega (arith, zero-at 25 i);
+}
 
 -- one line more
 pub running-more : (all rest : List (List ℕ)) (l : List ℕ) (c d : Census) (before middle after : List BadId) → Running all (l ∷ rest) c before middle → OneMore l c d middle after → Running all rest d before after
 running-more all rest l c d before middle after r s = record {
-    gone = r .gone ++ l ∷ [];
-    split = r .split ∙ sym (append-assoc (r .gone) (l ∷ []) rest);
-    census = more (r .gone) l c d before middle after (r .census) s;
-    few = λ i. let e = ap (λ v. getD v i 0) (s .kinds) in omega (arith, bump-few (classOf l) (c .kinds) (length (r .gone)) i (r .census .places) (r .few), length-append (r .gone) (l ∷ []));
-  }
+  gone = r .gone ++ l ∷ [];
+  split = r .split ∙ sym (append-assoc (r .gone) (l ∷ []) rest);
+  census = more (r .gone) l c d before middle after (r .census) s;
+  few = λ i. let e = ap (λ v. getD v i 0) (s .kinds) in omega (arith, bump-few (classOf l) (c .kinds) (length (r .gone)) i (r .census .places) (r .few), length-append (r .gone) (l ∷ []));
+}
 
 -- no number is larger than the number of lines
 pub running-small : (all rest : List (List ℕ)) (l : List ℕ) (c : Census) (before after : List BadId) → Running all (l ∷ rest) c before after → length all + 1 < 18446744073709551616 → Small c

@@ -1,6 +1,8 @@
 // A count of the lines of a trace by their kinds.
 mod count;
 mod record;
+#[cfg(test)]
+mod tests;
 
 pub use count::classify;
 pub use count::count_lines;

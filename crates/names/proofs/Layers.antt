@@ -122,11 +122,11 @@ name-found (w ∷ ws) m = by (joinedName w (named ws))
     by None = refl
     by (Some t) = ⊎-elim
         (λ h. let same = laid-length t m in
-              let fits = leb-true (length t) (length m) h in
-              cond-true (leb (length t) (length (laid t m))) _ _ (le-leb (length t) (length (laid t m)) (omega arith)) ∙ ap Some (laid-front t m fits) ∙ sym (cond-true (leb (length t) (length m)) _ _ h))
+        let fits = leb-true (length t) (length m) h in
+        cond-true (leb (length t) (length (laid t m))) _ _ (le-leb (length t) (length (laid t m)) (omega arith)) ∙ ap Some (laid-front t m fits) ∙ sym (cond-true (leb (length t) (length m)) _ _ h))
         (λ h. let same = laid-length t m in
-              let long = leb-false (length t) (length m) h in
-              cond-false (leb (length t) (length (laid t m))) _ _ (lt-leb (length t) (length (laid t m)) (omega arith)) ∙ sym (cond-false (leb (length t) (length m)) _ _ h))
+        let long = leb-false (length t) (length m) h in
+        cond-false (leb (length t) (length (laid t m))) _ _ (lt-leb (length t) (length (laid t m)) (omega arith)) ∙ sym (cond-false (leb (length t) (length m)) _ _ h))
         (cases-bool (leb (length t) (length m)))
 
 -- the name is little longer than what is left of the line

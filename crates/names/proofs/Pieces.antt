@@ -121,9 +121,9 @@ cut-at [] i e h = absurd (omega arith)
 cut-at (b ∷ s) i e h = ⊎-elim
     (λ t. let z = ap (λ u. cond (not u) (1 + before bang s) 0) t in let none : i ≡ 0 = omega arith in rw none (record { parts = ap (λ x. x ∷ s) (eqb-true b 33 t); free = tt }))
     (λ f. let z = ap (λ u. cond (not u) (1 + before bang s) 0) f in
-          let more : i ≡ suc (before bang s) = omega arith in
-          let rest = cut-at s (before bang s) refl (omega arith) in
-          rw (more, suc-add) (record { parts = ap (λ l. b ∷ l) (rest .parts); free = (f, rest .free) }))
+    let more : i ≡ suc (before bang s) = omega arith in
+    let rest = cut-at s (before bang s) refl (omega arith) in
+    rw (more, suc-add) (record { parts = ap (λ l. b ∷ l) (rest .parts); free = (f, rest .free) }))
     (cases-bool (bang b))
 
 -- a text that ends with a bar is no number

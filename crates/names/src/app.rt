@@ -6,7 +6,7 @@ ghost use Prim.Native.Nat.{ℕ, _+_, _^_, _<_, _≤_};
 ghost use lib.ListN.{length};
 ghost use Rattle.std.specs.Options.{Cases, mapped, isSome};
 ghost use Rattle.words.specs.Words.{ahead, firstOf, restOf};
-ghost use Rattle.names.specs.AppNames.{NameFound, named, children, childWords, nameIn, nameRead, nameSaid, scratchAfter};
+ghost use Rattle.names.specs.AppNames.{NameFound, named, children, childWords, nameRead, nameSaid, placedIn, scratchAfter};
 ghost use Rattle.names.specs.Writing.{laidAt, tail};
 use ids::is_id;
 use words::Words;
@@ -95,19 +95,18 @@ pub fn parse_app_name<'a>(words: &mut Words<'a>, scratch: &mut [u8]) -> Option<A
     })
 }
 
-impl<'a> AppName<'a> {
-    // The name itself, from the line or from the scratch memory that it was read with: none where that is too short for it.
-    pub fn text(&self, scratch: &'a [u8]) -> Option<&'a [u8]>
-        ensures { λ r. ⌜ mapped now r ≡ nameIn (nameSaid (now (self .entry))) (now (scratch .entry)) ⌝ }
-    {
-        match self.joined {
-            None => Some(self.first),
-            Some(n) => {
-                if n <= scratch.len() {
-                    Some(&scratch[0..n])
-                } else {
-                    None
-                }
+// The name itself, from the line or from the scratch memory that it was read with: none where that is too short for it. `first` and
+// `joined` are what `parse_app_name` told.
+pub fn name_text<'a>(first: &'a [u8], joined: Option<usize>, scratch: &'a [u8]) -> Option<&'a [u8]>
+    ensures { λ r. ⌜ mapped now r ≡ placedIn (now (first .entry)) joined (now (scratch .entry)) ⌝ }
+{
+    match joined {
+        None => Some(first),
+        Some(n) => {
+            if n <= scratch.len() {
+                Some(&scratch[0..n])
+            } else {
+                None
             }
         }
     }

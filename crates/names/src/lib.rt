@@ -2,8 +2,11 @@
 mod app;
 mod kind;
 mod quant;
+#[cfg(test)]
+mod tests;
 
 pub use app::AppName;
+pub use app::name_text;
 pub use app::parse_app_name;
 pub use kind::QuantKindParse;
 pub use quant::Qid;

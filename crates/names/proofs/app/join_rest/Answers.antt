@@ -35,9 +35,9 @@ loop-word-again c =
     let i = need.at·loop-word-again c .In-Some in (
       omega (arith, c .loop-word .inv .0, long i, c .put-n .ensures .value, c .put-n-in-Some .ensures .value),
       at-word (c .loop-word .n) (c .put-n .result) (c .put-n-in-Some .result) w ms (c .loop-word .scratch) (c .put-n .last .scratch) (c .put-n-in-Some .last .scratch)
-      (c .put-n .ensures .value) (c .put-n .ensures .written) (c .put-n-in-Some .ensures .value) (c .put-n-in-Some .ensures .written)
-      ∙ ap (λ l. laidAt (c .loop-word .n) (tail l) (c .loop-word .scratch)) (sym (split i))
-      ∙ c .loop-word .inv .1,
+          (c .put-n .ensures .value) (c .put-n .ensures .written) (c .put-n-in-Some .ensures .value) (c .put-n-in-Some .ensures .written)
+          ∙ ap (λ l. laidAt (c .loop-word .n) (tail l) (c .loop-word .scratch)) (sym (split i))
+          ∙ c .loop-word .inv .1,
       told .same ∙ c .loop-word .inv .2,
       omega (arith, c .loop-word .inv .3, ap length (told .ended), told .number),
     )

@@ -73,7 +73,7 @@ returns c =
     let told = c .in-Some .ensures tt in
     let two = second-word i in
     let long : c .join-rest-end .result ≡ length (barred (unwords (w ∷ v ∷ ms))) =
-        omega (arith, joined-long w v ms, c .put-n .ensures .value, c .put-n-2 .ensures .value, c .put-n-3 .ensures .value, c .put-n-4 .ensures .value, c .join-rest-end .ensures .value)
+    omega (arith, joined-long w v ms, c .put-n .ensures .value, c .put-n-2 .ensures .value, c .put-n-3 .ensures .value, c .put-n-4 .ensures .value, c .join-rest-end .ensures .value)
     in
     record {
       value = ap (λ n. Some (nameLength w n)) long ∙ sym (ap nameRead e ∙ ap (λ l. Some (nameOf w l)) two);

@@ -1,0 +1,13 @@
+pub mod Runs
+pub mod FirstMark
+pub mod Values
+pub mod FieldCuts
+pub mod Orders
+pub mod Parts
+pub mod Numerals
+pub mod Joins
+pub mod Identifiers
+pub mod CoreLaw
+pub mod Whole
+pub mod Compare
+pub mod Lawful

@@ -1,0 +1,6 @@
+pub mod Grammar
+pub mod Precedence
+pub mod Reader
+pub mod Law
+pub mod View
+pub mod Examples
