@@ -1,12 +1,13 @@
 // Worked examples, proved by computing the definitions that the readers equal.
 ghost use mathlib.Core.Path.{_≡_};
-ghost use Prim.Native.Nat.{_+_};
-ghost use lib.ListN.{length};
+ghost use mathlib.Core.Bool.{true};
 ghost use Rattle.examples.specs.Examples.{ReaderExamples};
+use ids::is_id;
 
-// The examples hold.
-pub fn reader_examples() -> u8
-    ensures { λ _. ⌜ ReaderExamples ⌝ }
+// The examples hold; two of them are read here, on both sides of the limit of a small number.
+pub fn reader_examples() -> bool
+    ensures hold { λ _. ⌜ ReaderExamples ⌝ }
+    ensures read { λ r. ⌜ r ≡ true ⌝ }
 {
-    0
+    is_id(b"#4294967294") && !is_id(b"#4294967295")
 }

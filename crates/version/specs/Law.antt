@@ -37,7 +37,8 @@ pub record TellsPrecedence (one two : List ℕ) (told : Option Ordering) : Type 
   pub complete : (v w : Semver) → Denotes one v → Denotes two w → told ≡ Some (byPrecedence v w)
 
 -- Precedence is a total order of versions, up to their build metadata: of two the one comes first just where the other comes
--- last, what comes before an earlier one comes before, and none comes first just where all but the build metadata is the same
+-- last, what comes before an earlier one comes before the later one too, and neither comes first just where they are the same
+-- but for build metadata
 pub record Orders : Type 0 where
   pub turned : (v w : Semver) → byPrecedence w v ≡ reversed (byPrecedence v w)
   pub chained : (u v w : Semver) → byPrecedence u v ≡ Less → byPrecedence v w ≡ Less → byPrecedence u w ≡ Less

@@ -13,6 +13,7 @@ use Rattle.std.specs.declared.cmp.Ordering.{Ordering}
 use Rattle.std.specs.declared.cmp.Ordering.the-variants.{Less, Equal, Greater}
 use Rattle.version.specs.Grammar.{Identifier, numeric, alphanumeric, Semver}
 
+-- numbers by value
 abbrev pub byValue : ℕ → ℕ → Ordering
 byValue m n = cond (ltb m n) Less (cond (eqb m n) Equal Greater)
 
@@ -23,16 +24,18 @@ byFirst by [] (y ∷ ys) = Less
 byFirst by (x ∷ xs) [] = Greater
 byFirst by (x ∷ xs) (y ∷ ys) = thenBy (by x y) (byFirst by xs ys)
 
--- ASCII order
+-- texts byte by byte, in ASCII order
 abbrev pub byBytes : List ℕ → List ℕ → Ordering
 byBytes s t = byFirst byValue s t
 
+-- numbers by value, texts by bytes, and a number before a text
 abbrev pub byIdentifier : Identifier → Identifier → Ordering
 byIdentifier (numeric m) (numeric n) = byValue m n
 byIdentifier (numeric m) (alphanumeric u) = Less
 byIdentifier (alphanumeric t) (numeric n) = Greater
 byIdentifier (alphanumeric t) (alphanumeric u) = byBytes t u
 
+-- the identifiers of two pre-releases, from the left
 abbrev pub byIdentifiers : List Identifier → List Identifier → Ordering
 byIdentifiers xs ys = byFirst byIdentifier xs ys
 
@@ -43,6 +46,7 @@ byPreRelease [] (y ∷ ys) = Greater
 byPreRelease (x ∷ xs) [] = Less
 byPreRelease (x ∷ xs) (y ∷ ys) = byIdentifiers (x ∷ xs) (y ∷ ys)
 
+-- the whole rule
 unfoldable pub byPrecedence : Semver → Semver → Ordering
 byPrecedence v w =
     thenBy (byValue (v .major) (w .major)) (thenBy (byValue (v .minor) (w .minor)) (thenBy (byValue (v .patch) (w .patch)) (byPreRelease (v .pre) (w .pre))))

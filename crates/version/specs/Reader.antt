@@ -35,7 +35,7 @@ abbrev pub fields : List ℕ → List (List ℕ)
 fields [] = [] ∷ []
 fields (b ∷ bs) = cond (eqb b 46) ([] ∷ fields bs) (longerField b (fields bs))
 
--- no text has no fields
+-- where there is no text there are no fields
 abbrev pub fieldsOf : Option (List ℕ) → List (List ℕ)
 fieldsOf None = []
 fieldsOf (Some t) = fields t

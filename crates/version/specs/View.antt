@@ -13,6 +13,7 @@ use Rattle.version.specs.declared.fields.Part.the-variants.{PreRelease, Build}
 use Rattle.version.specs.declared.number.Core.{Core}
 use Rattle.version.specs.declared.reader.Version.{Version}
 
+-- the bytes of a class
 abbrev pub inClass : Class → ℕ → Bool
 inClass Digits b = digit b
 inClass Characters b = character b
@@ -22,6 +23,7 @@ abbrev pub takenIn : Part → List ℕ → Bool
 takenIn PreRelease t = released t
 takenIn Build t = tagged t
 
+-- the three numbers
 abbrev pub three : Core → ℕ × ℕ × ℕ
 three n = (n .major, n .minor, n .patch)
 

@@ -1,5 +1,6 @@
 // Which of two versions is the later one.
 ghost use mathlib.Core.Path.{_≡_};
+ghost use lib.Chars.{codes};
 ghost use mathlib.Core.Bool.{true};
 ghost use Rattle.version.specs.Examples.{Examples};
 ghost use Rattle.version.specs.Grammar.{every};
@@ -116,10 +117,12 @@ pub fn is_new(text: &[u8]) -> Option<bool>
     Some(by_precedence(v, four_nine()).is_ge())
 }
 
-// Precedence is a total order up to build metadata, and the standard's worked examples come out as it says.
-pub fn precedence_stands() -> u8
+// Precedence is a total order up to build metadata, and the standard's worked examples come out as it says; so does the release that
+// newness is measured by.
+pub fn precedence_stands() -> Option<bool>
     ensures orders { λ _. ⌜ Orders ⌝ }
     ensures examples { λ _. ⌜ Examples ⌝ }
+    ensures release { λ r. ⌜ r ≡ newness (codes "4.9.0") ⌝ }
 {
-    0
+    is_new(b"4.9.0")
 }

@@ -27,4 +27,4 @@ examples = record {
 }
 
 pub returns : need.returns
-returns c = record { orders = orders; examples = examples }
+returns c = record { orders = orders; examples = examples; release = c .is-new .ensures .told }
