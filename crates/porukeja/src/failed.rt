@@ -3,10 +3,10 @@ use std::io;
 
 // The message is on stderr already.
 #[derive(Drop, Debug)]
-pub struct Failed;
+pub(crate) struct Failed;
 
 // Says what could not be done, and why.
-pub fn tell(rt: &LibcRuntime, what: &str, with: &str, why: io::Error) -> Failed {
+pub(crate) fn tell(rt: &LibcRuntime, what: &str, with: &str, why: io::Error) -> Failed {
     let _ = eprintln!(rt, "porukeja: {what}{with}: {why}");
     Failed
 }

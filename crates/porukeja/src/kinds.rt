@@ -284,7 +284,7 @@ fn print(rt: &LibcRuntime, wanted: &KindsOptions, bytes: &[u8]) -> io::Result<()
 }
 
 // The command `kinds`.
-pub fn run(rt: &LibcRuntime, wanted: &KindsOptions) -> Result<(), Failed> {
+pub(crate) fn run(rt: &LibcRuntime, wanted: &KindsOptions) -> Result<(), Failed> {
     let path = wanted.path.as_str();
     match input::read_file(rt, path, wanted.progress) {
         Err(why) => Err(failed::tell(rt, "cannot read ", path, why)),

@@ -1,4 +1,5 @@
 // Reads Z3 traces for a reviewer of visibility rules.
+mod entering;
 mod failed;
 mod input;
 mod kinds;
@@ -34,5 +35,6 @@ fn main(rt: LibcRuntime) -> Result<(), Failed> {
             Err(why) => Err(failed::tell(&rt, "cannot write", "", why)),
         },
         Ok(Command::Kinds(wanted)) => kinds::run(&rt, &wanted),
+        Ok(Command::Index(wanted)) => entering::run(&rt, &wanted),
     }
 }

@@ -6,7 +6,7 @@ use std::io::Write;
 const FULL: usize = 65_536;
 
 #[derive(Drop)]
-pub struct Output {
+pub(crate) struct Output {
     held: Vec<u8>,
 }
 
@@ -20,24 +20,24 @@ fn hex(n: u8) -> u8 {
 }
 
 impl Output {
-    pub fn new(heap: Global) -> Output {
+    pub(crate) fn new(heap: Global) -> Output {
         Output {
             held: Vec::new(heap),
         }
     }
 
-    pub fn text(&mut self, text: &str) -> io::Result<()> {
+    pub(crate) fn text(&mut self, text: &str) -> io::Result<()> {
         self.held.extend_from_slice(text.as_bytes())?;
         Ok(())
     }
 
-    pub fn number(&mut self, heap: Global, n: u64) -> io::Result<()> {
+    pub(crate) fn number(&mut self, heap: Global, n: u64) -> io::Result<()> {
         let text = n.to_string(heap)?;
         self.text(text.as_str())
     }
 
     // One byte of a text: a space, a backslash and what is not printable ASCII as \xNN.
-    pub fn byte(&mut self, b: u8) -> io::Result<()> {
+    pub(crate) fn byte(&mut self, b: u8) -> io::Result<()> {
         if b > 0x20 && b < 0x7f && b != b'\\' {
             self.held.push(b)?;
         } else {
@@ -48,7 +48,7 @@ impl Output {
     }
 
     // A text from the trace; an empty one is "".
-    pub fn bytes(&mut self, text: &[u8]) -> io::Result<()> {
+    pub(crate) fn bytes(&mut self, text: &[u8]) -> io::Result<()> {
         if text.is_empty() {
             return self.text("\"\"");
         }
@@ -59,14 +59,14 @@ impl Output {
     }
 
     // Writes what is held if it is much.
-    pub fn pass_on(&mut self, rt: &LibcRuntime) -> io::Result<()> {
+    pub(crate) fn pass_on(&mut self, rt: &LibcRuntime) -> io::Result<()> {
         if self.held.len() >= FULL {
             self.flush(rt)?;
         }
         Ok(())
     }
 
-    pub fn flush(&mut self, rt: &LibcRuntime) -> io::Result<()> {
+    pub(crate) fn flush(&mut self, rt: &LibcRuntime) -> io::Result<()> {
         rt.stdout().write_all(&self.held[..])?;
         self.held.clear();
         Ok(())

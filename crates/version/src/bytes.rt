@@ -19,7 +19,7 @@ impl Class {
         }
     }
 
-    pub fn holds_all(self, text: &[u8]) -> bool
+    pub(crate) fn holds_all(self, text: &[u8]) -> bool
         ensures { λ r. ⌜ r ≡ every (inClass self) (now (text .entry)) ⌝ }
     {
         for b in text {

@@ -4,7 +4,7 @@ ghost use Rattle.std.specs.Options.{mapped};
 ghost use Rattle.version.specs.Reader.{cutAt};
 
 // What stands before the first such byte, and what after it, if there is one.
-pub fn cut(text: &[u8], mark: u8) -> (&[u8], Option<&[u8]>)
+pub(crate) fn cut(text: &[u8], mark: u8) -> (&[u8], Option<&[u8]>)
     ensures front { λ r. ⌜ now (r .0) ≡ cutAt mark (now (text .entry)) .0 ⌝ }
     ensures rest { λ r. ⌜ mapped now (r .1) ≡ cutAt mark (now (text .entry)) .1 ⌝ }
 {

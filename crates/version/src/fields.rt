@@ -28,7 +28,7 @@ impl Part {
     }
 
     // Each field of the text is one that the part takes. No text is fine.
-    pub fn takes_all(self, text: Option<&[u8]>) -> bool
+    pub(crate) fn takes_all(self, text: Option<&[u8]>) -> bool
         ensures { λ r. ⌜ r ≡ every (takenIn self) (fieldsIn (text .entry)) ⌝ }
     {
         let mut left = text;

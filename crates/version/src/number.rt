@@ -6,7 +6,7 @@ ghost use Rattle.version.specs.View.{three};
 use crate::bytes::Class;
 use crate::cuts::cut;
 
-pub fn is_numeral(text: &[u8]) -> bool
+pub(crate) fn is_numeral(text: &[u8]) -> bool
     ensures { λ r. ⌜ r ≡ numeral (now (text .entry)) ⌝ }
 {
     if text.is_empty() || !Class::Digits.holds_all(text) {
@@ -16,7 +16,7 @@ pub fn is_numeral(text: &[u8]) -> bool
 }
 
 // The number that the text writes, if it is below 2^64. The first digit that passes the limit ends the loop.
-pub fn read_number(text: &[u8]) -> Option<u64>
+pub(crate) fn read_number(text: &[u8]) -> Option<u64>
     ensures { λ r. ⌜ r ≡ numberOf (now (text .entry)) ⌝ }
 {
     if !is_numeral(text) {
@@ -37,7 +37,7 @@ pub struct Core {
     pub patch: u64,
 }
 
-pub fn read_core(text: &[u8]) -> Option<Core>
+pub(crate) fn read_core(text: &[u8]) -> Option<Core>
     ensures { λ r. ⌜ mapped three r ≡ coreOf (now (text .entry)) ⌝ }
 {
     let (major, rest) = cut(text, b'.');

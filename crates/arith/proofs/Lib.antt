@@ -1,0 +1,5 @@
+pub mod Spaced
+pub mod Steps
+pub mod Worths
+pub mod Complete
+pub mod Sound
