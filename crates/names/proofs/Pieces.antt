@@ -12,7 +12,7 @@ use Rattle.std.specs.shelf.Lists.{leading, All}
 use Rattle.std.specs.Results.{isOk}
 use Rattle.std.specs.declared.result.Result.{Result}
 use Rattle.std.specs.declared.result.Result.the-variants.{Ok, Err}
-use Rattle.std.proofs.shelf.Tests.{cond-true, cond-false, cases-bool, eqb-true, eqb-false, eq-eqb, ne-eqb, lt-leb, lt-ltb, or-cases, cases-eq}
+use Rattle.std.proofs.shelf.Tests.{cond-true, cond-false, cases-bool, eqb-true, eqb-false, eq-eqb, ne-eqb, lt-leb, lt-ltb, cases-eq}
 use Rattle.std.proofs.shelf.Lists.{take-all}
 use Rattle.ids.specs.declared.number.NumberFault.{NumberFault}
 use Rattle.ids.specs.declared.number.NumberFault.the-variants.{Empty, NotDigit, TooLarge}
@@ -21,22 +21,9 @@ use Rattle.words.specs.declared.joined.Bars.{Bars}
 use Rattle.words.specs.declared.joined.Bars.the-variants.{Bare, Front, Both}
 use Rattle.words.specs.Words.{separates, splitBy, longer}
 use Rattle.words.specs.Joined.{asSpace, spaces, joinedText, frontBars}
+use Rattle.words.proofs.Bytes.{space-same}
 use Rattle.words.proofs.Cut.{before}
 use Rattle.names.specs.QuantKinds.{bang, QuantName, byName, byNumber, ifNumber, ofPieces, quantKind}
-
--- what a separator is: small, and no `!`, no digit and no plus sign
-sep-low : (b : ℕ) → separates b ≡ true → b ≤ 32
-sep-low b h = ⊎-elim
-    (λ e. omega (arith, eqb-true b 32 e))
-    (λ h. ⊎-elim (λ e. omega (arith, eqb-true b 9 e)) (λ h. ⊎-elim (λ e. omega (arith, eqb-true b 10 e)) (λ h. ⊎-elim (λ e. omega (arith, eqb-true b 12 e)) (λ e. omega (arith, eqb-true b 13 e)) (or-cases _ _ h)) (or-cases _ _ h)) (or-cases _ _ h))
-    (or-cases _ _ h)
-
--- a space in the place of a separator changes no test of a byte above 32
-space-same : {X : Type 0} (f : ℕ → X) → ((b : ℕ) → b ≤ 32 → f b ≡ f 32) → (b : ℕ) → f (asSpace b) ≡ f b
-space-same f low b = ⊎-elim
-    (λ h. ap f (cond-true (separates b) 32 b h) ∙ sym (low b (sep-low b h)))
-    (λ h. ap f (cond-false (separates b) 32 b h))
-    (cases-bool (separates b))
 
 space-bang : (b : ℕ) → bang (asSpace b) ≡ bang b
 space-bang = space-same bang (λ b h. ne-eqb b 33 (λ e. absurd (omega arith)))

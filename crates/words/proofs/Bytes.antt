@@ -9,7 +9,7 @@ use lib.ListN.{length, getD, length-append, length-map}
 use Rattle.std.specs.shelf.Maps.{nth}
 use Rattle.std.proofs.shelf.Maps.{nth-getD, nth-past}
 use Rattle.std.proofs.shelf.Lists.{getD-map}
-use Rattle.std.proofs.shelf.Tests.{cond-true, cond-false, cases-bool}
+use Rattle.std.proofs.shelf.Tests.{cond-true, cond-false, cases-bool, eqb-true, or-cases}
 use Rattle.std.specs.declared.option.Option.{Option}
 use Rattle.std.specs.declared.option.Option.the-variants.{Some, None}
 use Rattle.words.specs.declared.joined.Bars.{Bars}
@@ -77,3 +77,16 @@ byte-inside Both s i h n m = nth-later (spaces s ++ 124 ∷ []) 124 i n ∙ nth-
 
 pub byte-last : (s : List ℕ) (i : ℕ) → i ≡ length s + 1 → nth (joinedText Both s) i ≡ Some 124
 byte-last s i e = nth-later (spaces s ++ 124 ∷ []) 124 i (λ z. absurd (omega arith)) ∙ nth-last (spaces s) 124 (i - 1) (omega (arith, length-map s asSpace))
+
+-- a separator is a small byte, so a space in its place changes nothing that is alike for all bytes up to 32
+sep-low : (b : ℕ) → separates b ≡ true → b ≤ 32
+sep-low b h = ⊎-elim
+    (λ e. omega (arith, eqb-true b 32 e))
+    (λ h. ⊎-elim (λ e. omega (arith, eqb-true b 9 e)) (λ h. ⊎-elim (λ e. omega (arith, eqb-true b 10 e)) (λ h. ⊎-elim (λ e. omega (arith, eqb-true b 12 e)) (λ e. omega (arith, eqb-true b 13 e)) (or-cases _ _ h)) (or-cases _ _ h)) (or-cases _ _ h))
+    (or-cases _ _ h)
+
+pub space-same : {X : Type 0} (f : ℕ → X) → ((b : ℕ) → b ≤ 32 → f b ≡ f 32) → (b : ℕ) → f (asSpace b) ≡ f b
+space-same f low b = ⊎-elim
+    (λ h. ap f (cond-true (separates b) 32 b h) ∙ sym (low b (sep-low b h)))
+    (λ h. ap f (cond-false (separates b) 32 b h))
+    (cases-bool (separates b))
