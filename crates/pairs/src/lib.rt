@@ -3,6 +3,8 @@ mod listing;
 mod reading;
 mod sorting;
 mod strip;
+#[cfg(test)]
+mod tests;
 mod types;
 
 pub use listing::check_var_names;
