@@ -1,4 +1,6 @@
 // Values of the theory `arith`.
+#![tactic(auto)]
+
 ghost use Rattle.std.specs.Prelude.{◌≡◌, ℕ, ◌+◌, ◌^◌, ◌<◌, ◌≤◌, length, IfSome, IfOk, Ok, codes};
 ghost use Rattle.std.specs.Option.{option_map};
 ghost use Rattle.fraction.specs.Fractions.{ratio};

@@ -1,6 +1,8 @@
 // How long entering and finding take in the table of identifiers, by number, load and kind of identifiers.
 // What was entered and found goes to stdout, and times to stderr, since they differ from run to run.
 // Without an argument it does a quick run; with `full`, 100 thousand identifiers, then 8 and 15 million.
+#![tactic(auto)]
+
 use idents::ident::Ident;
 use index::map::TermIdToIdxMap;
 use index::table::term_table;

@@ -1,4 +1,6 @@
 // Bit-vector values, as SMT-LIB 2.6 writes them.
+#![tactic(auto)]
+
 ghost use Rattle.std.specs.Prelude.{◌≡◌, ◌+◌, ◌*◌, ◌<◌, ◌≤◌, IfSome};
 ghost use Rattle.words.specs.Joined.{spaces};
 ghost use Rattle.bitvec.specs.BitVecs.{bit_digit, bit_vec, bits_of, digit_in, hex_digit, of_digits, radix, vec_fault_number};

@@ -1,4 +1,6 @@
 // A count of the lines of a trace by their kinds.
+#![tactic(auto)]
+
 mod count;
 mod record;
 #[cfg(test)]

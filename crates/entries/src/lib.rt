@@ -1,4 +1,6 @@
 // Entries in a fresh index, whatever its make.
+#![tactic(auto)]
+
 ghost use Rattle.std.specs.Prelude.{◌≡◌, ℕ, ◌<◌, ◌≤◌, true, length};
 ghost use Rattle.keyed.specs.Meaning.{nothing};
 ghost use Rattle.idents.specs.Idents.{proper_ident};

@@ -1,4 +1,6 @@
 // Worked examples, proved by computing the definitions that the readers equal.
+#![tactic(auto)]
+
 ghost use Rattle.std.specs.Prelude.{◌≡◌, true};
 ghost use Rattle.examples.specs.Examples.{ReaderExamples};
 

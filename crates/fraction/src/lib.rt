@@ -1,4 +1,6 @@
 // Fractions in lowest terms, and their arithmetic.
+#![tactic(auto)]
+
 ghost use Rattle.std.specs.Prelude.{◌≡◌, ℕ, ◌+◌, ◌*◌, ◌^◌, ◌<◌, ◌≤◌, pos, ◌*ℤ◌, unsigned_abs};
 ghost use Rattle.fraction.specs.Laws.{Greatest-divisor, Lowest-stands};
 ghost use Rattle.fraction.specs.Bounds.{fits};

@@ -1,4 +1,6 @@
 // An index in front of another: it keeps the low orders without a namespace itself.
+#![tactic(auto)]
+
 pub mod front;
 
 #[cfg(test)]

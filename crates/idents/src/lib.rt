@@ -1,4 +1,6 @@
 // Identifiers as an index takes them, and as keys of a slot table.
+#![tactic(auto)]
+
 pub mod ident;
 pub mod ident_key;
 

@@ -1,4 +1,6 @@
 // Small numbers and identifiers.
+#![tactic(auto)]
+
 mod id;
 mod number;
 #[cfg(test)]

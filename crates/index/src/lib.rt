@@ -1,4 +1,6 @@
 // What an index of terms is: a trait with its laws; and the slot table as an index.
+#![tactic(auto)]
+
 pub mod either;
 pub mod map;
 pub mod table;

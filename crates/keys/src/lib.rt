@@ -1,4 +1,6 @@
 // Kinds of keys: an equality and a seeded hash; numbers of 32 and 64 bits.
+#![tactic(auto)]
+
 pub mod key;
 pub mod mix;
 pub mod u32_key;

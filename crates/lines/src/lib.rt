@@ -1,4 +1,6 @@
 // The lines of a trace file, one by one. The lines are parts of the file's bytes.
+#![tactic(auto)]
+
 ghost use Rattle.std.specs.Prelude.{◌≡◌, ◌≤◌, length};
 ghost use Rattle.lines.specs.Lines.{lines_of, cut_off, ahead, line_len, front, blank, opens, ends_in, trimmed, FirstEnds};
 ghost use Rattle.lines.specs.Laws.{LinesStand};

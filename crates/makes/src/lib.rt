@@ -1,4 +1,6 @@
 // The makes of index put together: what is promised of a list of entries has no premise here, and does not speak of the seed.
+#![tactic(auto)]
+
 ghost use Rattle.std.specs.Prelude.{min, length};
 ghost use Rattle.index.specs.TermTables.{ident_room};
 ghost use Rattle.front.specs.Fronts.{front_room};

@@ -1,4 +1,6 @@
 // Names of applications and of quantifiers.
+#![tactic(auto)]
+
 mod app;
 mod kind;
 mod quant;

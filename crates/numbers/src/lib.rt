@@ -1,4 +1,6 @@
 // Tables of numbers: the slot table at 64-bit numbers, and at term numbers, which meanings go by.
+#![tactic(auto)]
+
 ghost use Rattle.std.specs.Prelude.{◌≡◌, min, length, nat_eq};
 ghost use Rattle.keyed.specs.Meaning.{nothing};
 ghost use Rattle.keyed.specs.Tables.{unused, table_size, table_means, TableSound};

@@ -1,4 +1,6 @@
 // The pairs of variable names on a line that attaches them.
+#![tactic(auto)]
+
 mod listing;
 mod reading;
 mod sorting;

@@ -1,4 +1,6 @@
 // Reads Z3 traces for a reviewer of visibility rules.
+#![tactic(auto)]
+
 mod entering;
 mod failed;
 mod input;

@@ -1,4 +1,6 @@
 // Versions of Semantic Versioning 2.0.0, with their three numbers below 2^64: reading one, and which of two is the later one.
+#![tactic(auto)]
+
 mod bytes;
 mod cuts;
 mod fields;

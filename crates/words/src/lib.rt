@@ -1,4 +1,6 @@
 // The words of a line, texts joined from them, and the kind of a line.
+#![tactic(auto)]
+
 mod bound;
 mod cursor;
 mod joined;
