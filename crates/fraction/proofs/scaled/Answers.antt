@@ -2,8 +2,8 @@ use Rattle.std.proofs.Common.{◌≡◌, ◌^◌, ◌<◌, pos, nat_abs, sym, �
 use Rattle.fraction.proofs.Sizes.{narrow, product-fits, product-made, product-size}
 use Rattle.fraction.proofs.scaled.Goals as goal
 
-pub overflow-mul-result : goal.overflow-mul-result
-overflow-mul-result c = product-fits c.args.num (pos c.args.by) c.from.result c.from-2.result c.requires.0 c.requires.1 (c.from.ensures ∙ narrow c.args.num c.requires.0) c.from-2.ensures
+pub overflow_mul-result : goal.overflow_mul-result
+overflow_mul-result c = product-fits c.args.num (pos c.args.by) c.from.result c.from-2.result c.requires.0 c.requires.1 (c.from.ensures ∙ narrow c.args.num c.requires.0) c.from-2.ensures
 
 pub returns : goal.returns
 returns c =

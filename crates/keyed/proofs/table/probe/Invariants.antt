@@ -9,5 +9,5 @@ invariant-loop-step g l =
     let k = g.K.Key in
     let xs = l.slots in
     let h = start (k.code l.seed) (length xs) l.key in
-    (l.n ≡ length xs) × (l.at < length xs) × (h < length xs) × (l.-step < length xs → gap (length xs) h l.at ≡ l.-step)
-    × ((j : ℕ) → j < length xs → gap (length xs) h j < l.-step → Passed k.alike l.key (get_or xs j Free))
+    (l.n ≡ length xs) × (l.at < length xs) × (h < length xs) × (l._step < length xs → gap (length xs) h l.at ≡ l._step)
+    × ((j : ℕ) → j < length xs → gap (length xs) h j < l._step → Passed k.alike l.key (get_or xs j Free))

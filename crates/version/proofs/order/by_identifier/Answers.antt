@@ -10,10 +10,10 @@ returns c =
     let t = c.args.b.now in
     let size = ranked_value (length s) (length t) c.cmp-2.result c.cmp-2.ensures in
     let bytes = lex_bytes s t c.cmp-3.result c.cmp-3.ensures in
-    c.then.ensures ∙ ((λ i. ordering_then (size i) (bytes i)) ∙ by_values s t c.requires.0 c.requires.1 (sym c.if-not-holds-all.ensures) (sym c.if-not-holds-all-2.ensures))
+    c.then.ensures ∙ ((λ i. ordering_then (size i) (bytes i)) ∙ by_values s t c.requires.0 c.requires.1 (sym c.if-not-holds_all.ensures) (sym c.if-not-holds_all-2.ensures))
 
-pub returns-else-holds-all : goal.returns-else-holds-all
-returns-else-holds-all c =
+pub returns-else-holds_all : goal.returns-else-holds_all
+returns-else-holds_all c =
     let s = c.args.a.now in
     let t = c.args.b.now in
-    lex_bytes s t c.cmp.result c.cmp.ensures ∙ by_texts s t (sym c.if-not-holds-all.ensures) (sym c.if-holds-all.ensures)
+    lex_bytes s t c.cmp.result c.cmp.ensures ∙ by_texts s t (sym c.if-not-holds_all.ensures) (sym c.if-holds_all.ensures)

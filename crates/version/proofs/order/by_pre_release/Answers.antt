@@ -20,4 +20,4 @@ pub returns-in-Some-b-2 : goal.returns-in-Some-b-2
 returns-in-Some-b-2 c =
     let s = c.in-Some.field-0.now in
     let t = c.in-Some-b-2.field-0.now in
-    c.by-identifiers.ensures ∙ ((λ i. by_identifiers (identifiers_in (c.in-Some.is i)) (identifiers_in (c.in-Some-b-2.is i))) ∙ (pre_both (fields s) (cut_at 46 s).0 (fields_of (cut_at 46 s).1) (fields-cut s) (fields t) (cut_at 46 t).0 (fields_of (cut_at 46 t).1) (fields-cut t) ∙ (λ i. by_pre_release (identifiers_in (sym c.in-Some.is i)) (identifiers_in (sym c.in-Some-b-2.is i)))))
+    c.by_identifiers.ensures ∙ ((λ i. by_identifiers (identifiers_in (c.in-Some.is i)) (identifiers_in (c.in-Some-b-2.is i))) ∙ (pre_both (fields s) (cut_at 46 s).0 (fields_of (cut_at 46 s).1) (fields-cut s) (fields t) (cut_at 46 t).0 (fields_of (cut_at 46 t).1) (fields-cut t) ∙ (λ i. by_pre_release (identifiers_in (sym c.in-Some.is i)) (identifiers_in (sym c.in-Some-b-2.is i)))))

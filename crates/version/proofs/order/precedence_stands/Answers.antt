@@ -27,4 +27,4 @@ examples = record {
 }
 
 pub returns : goal.returns
-returns c = record { orders = orders; examples = examples; release = c.is-new.ensures.told }
+returns c = record { orders = orders; examples = examples; release = c.is_new.ensures.told }

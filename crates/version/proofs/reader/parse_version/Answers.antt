@@ -7,41 +7,41 @@ use Rattle.version.specs.View.{three, seen}
 use Rattle.version.proofs.Parts.{parts_told, assembled-yes, assembled-no_pre, assembled-no_build}
 use Rattle.version.proofs.Whole.{tells_same}
 use Rattle.version.proofs.reader.parse_version.Goals as goal
-use Rattle.version.proofs.reader.parse_version.Goals.{then-not-takes-all-via-then-not-takes-all, then-not-takes-all-via-else-not-takes-all+then-not-takes-all-2}
+use Rattle.version.proofs.reader.parse_version.Goals.{then-not-takes_all-via-then-not-takes_all, then-not-takes_all-via-else-not-takes_all+then-not-takes_all-2}
 
 pub returns : goal.returns
 returns c =
     let before = option_map (λ x. x.now) c.cut-2.result.1 in
     let after = option_map (λ x. x.now) c.cut.result.1 in
-    let e = parts_told c.args.text.now c.cut.result.0.now c.cut-2.result.0.now before after (option_map three c.read-core.result) c.cut.ensures.front c.cut.ensures.rest c.cut-2.ensures.front c.cut-2.ensures.rest c.read-core.ensures in
-    let p = e ∙ ap (λ n. assembled (option_map three n) before after) c.in-ok-core.was ∙ assembled-yes (three c.in-ok-core.core) before after (sym c.if-not-takes-all.ensures) (sym c.if-not-takes-all-2.ensures) in
+    let e = parts_told c.args.text.now c.cut.result.0.now c.cut-2.result.0.now before after (option_map three c.read_core.result) c.cut.ensures.front c.cut.ensures.rest c.cut-2.ensures.front c.cut-2.ensures.rest c.read_core.ensures in
+    let p = e ∙ ap (λ n. assembled (option_map three n) before after) c.in_ok-core.was ∙ assembled-yes (three c.in_ok-core.core) before after (sym c.if-not-takes_all.ensures) (sym c.if-not-takes_all-2.ensures) in
     record {
       told = sym p;
       tells = tells_same c.args.text.now _ p;
-      proper = sym c.if-not-takes-all.ensures;
+      proper = sym c.if-not-takes_all.ensures;
     }
 
-pub returns-in-err-core : goal.returns-in-err-core
-returns-in-err-core c =
+pub returns-in_err-core : goal.returns-in_err-core
+returns-in_err-core c =
     let before = option_map (λ x. x.now) c.cut-2.result.1 in
     let after = option_map (λ x. x.now) c.cut.result.1 in
-    let e = parts_told c.args.text.now c.cut.result.0.now c.cut-2.result.0.now before after (option_map three c.read-core.result) c.cut.ensures.front c.cut.ensures.rest c.cut-2.ensures.front c.cut-2.ensures.rest c.read-core.ensures in
-    let p = e ∙ ap (λ n. assembled (option_map three n) before after) c.in-err-core.was ∙ ap (option_map seen) (sym c.from-residual.ensures) in
+    let e = parts_told c.args.text.now c.cut.result.0.now c.cut-2.result.0.now before after (option_map three c.read_core.result) c.cut.ensures.front c.cut.ensures.rest c.cut-2.ensures.front c.cut-2.ensures.rest c.read_core.ensures in
+    let p = e ∙ ap (λ n. assembled (option_map three n) before after) c.in_err-core.was ∙ ap (option_map seen) (sym c.from_residual.ensures) in
     record {
       told = sym p;
       tells = tells_same c.args.text.now _ p;
-      proper = MatchOption-from_none c.from-residual.result (λ v. every released (fields_in v.pre) ≡ true) c.from-residual.ensures;
+      proper = MatchOption-from_none c.from_residual.result (λ v. every released (fields_in v.pre) ≡ true) c.from_residual.ensures;
     }
 
-pub returns-then-not-takes-all : goal.returns-then-not-takes-all
-returns-then-not-takes-all c =
+pub returns-then-not-takes_all : goal.returns-then-not-takes_all
+returns-then-not-takes_all c =
     let before = option_map (λ x. x.now) c.cut-2.result.1 in
     let after = option_map (λ x. x.now) c.cut.result.1 in
-    let core = three c.in-ok-core.core in
-    let e = parts_told c.args.text.now c.cut.result.0.now c.cut-2.result.0.now before after (option_map three c.read-core.result) c.cut.ensures.front c.cut.ensures.rest c.cut-2.ensures.front c.cut-2.ensures.rest c.read-core.ensures ∙ ap (λ n. assembled (option_map three n) before after) c.in-ok-core.was in
+    let core = three c.in_ok-core.core in
+    let e = parts_told c.args.text.now c.cut.result.0.now c.cut-2.result.0.now before after (option_map three c.read_core.result) c.cut.ensures.front c.cut.ensures.rest c.cut-2.ensures.front c.cut-2.ensures.rest c.read_core.ensures ∙ ap (λ n. assembled (option_map three n) before after) c.in_ok-core.was in
     let refused : assembled (Some core) before after ≡ None =
-    elim c.then-not-takes-all.branch [
-      | then-not-takes-all-via-then-not-takes-all w ↦ assembled-no_pre core before after (sym w.if-not-takes-all.ensures)
-      | then-not-takes-all-via-else-not-takes-all+then-not-takes-all-2 w ↦ assembled-no_build core before after (sym w.if-not-takes-all-2.ensures)
+    elim c.then-not-takes_all.branch [
+      | then-not-takes_all-via-then-not-takes_all w ↦ assembled-no_pre core before after (sym w.if-not-takes_all.ensures)
+      | then-not-takes_all-via-else-not-takes_all+then-not-takes_all-2 w ↦ assembled-no_build core before after (sym w.if-not-takes_all-2.ensures)
     ] in
     record { told = sym (e ∙ refused); tells = tells_same c.args.text.now _ (e ∙ refused); proper = tt }

@@ -15,4 +15,4 @@ returns c =
     let right : R ≡ y.num *ℤ pos x.den = c.scaled-right.ensures.value ∙ ap (λ z. z *ℤ pos x.den) (narrow y.num (fits-small (nat_abs y.num) y.den y.within).0) in
     let sum : to_z w128 (of_z w128 (to_z w128 (of_z w128 L) +ℤ to_z w128 (of_z w128 R))) ≡ x.num *ℤ pos y.den +ℤ y.num *ℤ pos x.den =
     rw (wide L (omega arith), wide R (omega arith)) (wide (L +ℤ R) (omega arith)) ∙ (λ i. left i +ℤ right i) in
-    c.reduce.ensures ∙ (λ i. reduced (sum i) (c.below-both.ensures.value i))
+    c.reduce.ensures ∙ (λ i. reduced (sum i) (c.below_both.ensures.value i))

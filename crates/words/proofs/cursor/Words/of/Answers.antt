@@ -2,8 +2,8 @@ use Rattle.std.proofs.Common.{refl, arith}
 use Rattle.words.proofs.Standing.{words_apart}
 use Rattle.words.proofs.cursor.Words.of.Goals as goal
 
-pub invariant-of-result : goal.invariant-of-result
-invariant-of-result c = (omega arith, tt)
+pub invariant_of-result : goal.invariant_of-result
+invariant_of-result c = (omega arith, tt)
 
 pub returns : goal.returns
 returns c = record { words = refl; number = refl; apart = words_apart }

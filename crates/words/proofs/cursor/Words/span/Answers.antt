@@ -5,19 +5,19 @@ use Rattle.words.specs.Words.{words_of, ahead, front_of, size_left}
 use Rattle.words.proofs.Cut.{words_count}
 use Rattle.words.proofs.Spans.{found, Found, found_long}
 use Rattle.words.proofs.cursor.Words.span.Goals as goal
-use Rattle.words.proofs.cursor.Words.span.Goals.{In-ok-end}
+use Rattle.words.proofs.cursor.Words.span.Goals.{In_ok-end}
 
 -- what the place that was found says
-here : (c : In-ok-end) → Found c.in-ok-line.line.now c.args.count c.in-ok-end.end
-here c = found _ _ _ c.in-ok-end.ensures.value
+here : (c : In_ok-end) → Found c.in_ok-line.line.now c.args.count c.in_ok-end.end
+here c = found _ _ _ c.in_ok-end.ensures.value
 
 pub returns-then-end-line : goal.returns-then-end-line
 returns-then-end-line c =
-    let f = here (goal.at.returns-then-end-line c).In-ok-end in
-    let xs = c.in-ok-line.line.now in
-    let e = c.in-ok-end.end in
+    let f = here (goal.at.returns-then-end-line c).In_ok-end in
+    let xs = c.in_ok-line.line.now in
+    let e = c.in_ok-end.end in
     let k = c.args.count in
-    let was = ap ahead c.in-ok-line.was in
+    let was = ap ahead c.in_ok-line.was in
     let all : take e xs ≡ xs = take_all e xs (omega arith) in
     record {
       words = ap Some (sym (ap words_of all) ∙ f.ending.front) ∙ sym f.words ∙ sym (ap (front_of k) was);
@@ -25,36 +25,36 @@ returns-then-end-line c =
       number = refl;
     }
 
-pub overflow-add-self : goal.overflow-add-self
-overflow-add-self c =
-    let f = here (goal.at.overflow-add-self c).In-ok-end in
-    let e = ap size_left c.in-ok-line.was in
-    omega (arith, c.args.self.now.fits, f.many, words_count c.in-ok-line.line.now)
+pub overflow_add-self : goal.overflow_add-self
+overflow_add-self c =
+    let f = here (goal.at.overflow_add-self c).In_ok-end in
+    let e = ap size_left c.in_ok-line.was in
+    omega (arith, c.args.self.now.fits, f.many, words_count c.in_ok-line.line.now)
 
-pub invariant-of-self : goal.invariant-of-self
-invariant-of-self c =
-    let f = here (goal.at.invariant-of-self c).In-ok-end in
-    let e = ap size_left c.in-ok-line.was in
-    (omega (arith, c.args.self.now.fits, f.many, words_count c.in-ok-line.line.now), tt)
+pub invariant_of-self : goal.invariant_of-self
+invariant_of-self c =
+    let f = here (goal.at.invariant_of-self c).In_ok-end in
+    let e = ap size_left c.in_ok-line.was in
+    (omega (arith, c.args.self.now.fits, f.many, words_count c.in_ok-line.line.now), tt)
 
-pub invariant-of-self-2 : goal.invariant-of-self-2
-invariant-of-self-2 c =
-    let f = here (goal.at.invariant-of-self-2 c).In-ok-end in
-    let xs = c.in-ok-line.line.now in
-    let e = c.in-ok-end.end in
+pub invariant_of-self-2 : goal.invariant_of-self-2
+invariant_of-self-2 c =
+    let f = here (goal.at.invariant_of-self-2 c).In_ok-end in
+    let xs = c.in_ok-line.line.now in
+    let e = c.in_ok-end.end in
     let k = c.args.count in
     let lt : e < length xs = omega (arith, f.ending.within) in
-    let size = ap size_left c.in-ok-line.was in
+    let size = ap size_left c.in_ok-line.was in
     (rw (take_rest, length-drop) (omega (arith, c.args.self.now.fits, found_long xs k e f)), tt)
 
 pub returns : goal.returns
 returns c =
-    let f = here (goal.at.returns c).In-ok-end in
-    let xs = c.in-ok-line.line.now in
-    let e = c.in-ok-end.end in
+    let f = here (goal.at.returns c).In_ok-end in
+    let xs = c.in_ok-line.line.now in
+    let e = c.in_ok-end.end in
     let k = c.args.count in
     let lt : e < length xs = omega (arith, f.ending.within) in
-    let was = ap ahead c.in-ok-line.was in
+    let was = ap ahead c.in_ok-line.was in
     record {
       words = rw sub-zero (ap Some f.ending.front ∙ sym f.words ∙ sym (ap (front_of k) was));
       rest = rw take_rest (f.ending.back lt ∙ sym (ap (drop k) was));
