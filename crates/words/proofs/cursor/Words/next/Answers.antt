@@ -13,7 +13,7 @@ overflow_add-self c =
 pub invariant_of-self : goal.invariant_of-self
 invariant_of-self c =
     let e = ap size_left c.in_ok-line.was in
-    (omega (arith, c.args.self.now.fits), tt)
+    record { fits = omega (arith, c.args.self.now.fits) }
 
 pub invariant_of-self-2 : goal.invariant_of-self-2
 invariant_of-self-2 c =
@@ -21,7 +21,7 @@ invariant_of-self-2 c =
     let n = c.word_end-end.result in
     let lt : n < length xs = omega arith in
     let e = ap size_left c.in_ok-line.was in
-    (rw (take_rest, length-drop) (omega (arith, c.args.self.now.fits)), tt)
+    record { fits = rw (take_rest, length-drop) (omega (arith, c.args.self.now.fits)) }
 
 pub returns : goal.returns
 returns c =

@@ -35,7 +35,7 @@ pub invariant_of-self : goal.invariant_of-self
 invariant_of-self c =
     let f = here (goal.at.invariant_of-self c).In_ok-end in
     let e = ap size_left c.in_ok-line.was in
-    (omega (arith, c.args.self.now.fits, f.many, words_count c.in_ok-line.line.now), tt)
+    record { fits = omega (arith, c.args.self.now.fits, f.many, words_count c.in_ok-line.line.now) }
 
 pub invariant_of-self-2 : goal.invariant_of-self-2
 invariant_of-self-2 c =
@@ -45,7 +45,7 @@ invariant_of-self-2 c =
     let k = c.args.count in
     let lt : e < length xs = omega (arith, f.ending.within) in
     let size = ap size_left c.in_ok-line.was in
-    (rw (take_rest, length-drop) (omega (arith, c.args.self.now.fits, found_long xs k e f)), tt)
+    record { fits = rw (take_rest, length-drop) (omega (arith, c.args.self.now.fits, found_long xs k e f)) }
 
 pub returns : goal.returns
 returns c =
