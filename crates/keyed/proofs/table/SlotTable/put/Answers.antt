@@ -25,7 +25,7 @@ returns g c =
           subst (λ zs. Entered k.alike (room_in k.alike (used xs) c.args.key) c.args.key c.args.value no_room (table_names k.alike (used xs)) (table_names k.alike zs) c.store.result) (sym back)
           (subst (λ zs. Entered k.alike (room_in k.alike zs c.args.key) c.args.key c.args.value no_room (table_names k.alike zs) (table_names k.alike ys) c.store.result) same
           (ends.entered (subst (λ zs. Probing k.alike (k.code t.seed) zs) (sym same) ok)));
-      refused = λ e j. record { slots = record { ref_ptr = t.slots.ptr; ghost_name = t.slots.name; now = same_back 16777216 xs n few ys (ends.refused e) j }; seed = t.seed };
+      refused = λ e j. record { slots = record { ref_ptr = t.slots.ref_ptr; ghost_name = t.slots.ghost_name; now = same_back 16777216 xs n few ys (ends.refused e) j }; seed = t.seed };
       seeded = refl;
       beyond = rest_back 16777216 xs n few ys c.store.auto.slots;
       lent = refl;
