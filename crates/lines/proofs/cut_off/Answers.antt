@@ -4,14 +4,14 @@ use Rattle.lines.specs.Lines.{cut_off}
 use Rattle.lines.proofs.Cut.{piece-some, piece-none}
 use Rattle.lines.proofs.cut_off.Goals as goal
 
-pub returns-then-not-is-empty : goal.returns-then-not-is-empty
-returns-then-not-is-empty c =
+pub returns-then-not-is_empty : goal.returns-then-not-is_empty
+returns-then-not-is_empty c =
     let xs = c.args.bytes.now in
-    ap not c.ends-in.ensures
-    ∙ sym (ap (λ m. cut_off m xs) c.in-Joined.is ∙ piece-some xs (eqb-false (length xs) 0 (sym c.if-not-is-empty.ensures)))
+    ap not c.ends_in.ensures
+    ∙ sym (ap (λ m. cut_off m xs) c.in-Joined.is ∙ piece-some xs (eqb-false (length xs) 0 (sym c.if-not-is_empty.ensures)))
 
-pub returns-else-not-is-empty : goal.returns-else-not-is-empty
-returns-else-not-is-empty c =
+pub returns-else-not-is_empty : goal.returns-else-not-is_empty
+returns-else-not-is_empty c =
     let xs = c.args.bytes.now in
-    ap not c.if-not-is-empty.false
-    ∙ sym (ap (λ m. cut_off m xs) c.in-Joined.is ∙ piece-none xs (eqb-true (length xs) 0 (sym c.if-not-is-empty.ensures)))
+    ap not c.if-not-is_empty.false
+    ∙ sym (ap (λ m. cut_off m xs) c.in-Joined.is ∙ piece-none xs (eqb-true (length xs) 0 (sym c.if-not-is_empty.ensures)))

@@ -8,14 +8,14 @@ returns-then-b-eq10 c =
     sym (blank-end c.args.s.now c.loop-b.b-index c.loop-b-test.true (eq-eqb (get_or c.args.s.now c.loop-b.b-index 0) 10 c.if-b-eq10.true))
     ∙ c.loop-b.invariant
 
-pub returns-then-not-is-separator : goal.returns-then-not-is-separator
-returns-then-not-is-separator c =
-    sym (blank-not c.args.s.now c.loop-b.b-index c.loop-b-test.true (ne_eqb (get_or c.args.s.now c.loop-b.b-index 0) 10 c.if-b-eq10.false) (sym c.if-not-is-separator.ensures))
+pub returns-then-not-is_separator : goal.returns-then-not-is_separator
+returns-then-not-is_separator c =
+    sym (blank-not c.args.s.now c.loop-b.b-index c.loop-b-test.true (ne_eqb (get_or c.args.s.now c.loop-b.b-index 0) 10 c.if-b-eq10.false) (sym c.if-not-is_separator.ensures))
     ∙ c.loop-b.invariant
 
 pub loop-b-preserved : goal.loop-b-preserved
 loop-b-preserved c =
-    sym (blank-more c.args.s.now c.loop-b.b-index c.loop-b-test.true (ne_eqb (get_or c.args.s.now c.loop-b.b-index 0) 10 c.if-b-eq10.false) (sym c.if-not-is-separator.ensures))
+    sym (blank-more c.args.s.now c.loop-b.b-index c.loop-b-test.true (ne_eqb (get_or c.args.s.now c.loop-b.b-index 0) 10 c.if-b-eq10.false) (sym c.if-not-is_separator.ensures))
     ∙ c.loop-b.invariant
 
 pub returns : goal.returns
