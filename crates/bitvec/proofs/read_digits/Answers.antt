@@ -5,8 +5,8 @@ use Rattle.bitvec.proofs.Digits.{Reading, reading_more, reading_over, digits_bad
 use Rattle.bitvec.proofs.read_digits.Goals as goal
 use Rattle.bitvec.proofs.read_digits.Goals.{then-value-most, else-value-most}
 
-pub returns-in-default : goal.returns-in-default
-returns-in-default c = sym (digits_bad c.args.base c.loop-b.value c.loop-b.b-index c.args.ds.now c.loop-b.invariant c.loop-b-test.true (sym c.in-default.ensures.value))
+pub returns-in_default : goal.returns-in_default
+returns-in_default c = sym (digits_bad c.args.base c.loop-b.value c.loop-b.b-index c.args.ds.now c.loop-b.invariant c.loop-b-test.true (sym c.in_default.ensures.value))
 
 pub loop-b-preserved : goal.loop-b-preserved
 loop-b-preserved c =
@@ -22,12 +22,12 @@ loop-b-preserved c =
 pub returns-then-value-most-2 : goal.returns-then-value-most-2
 returns-then-value-most-2 c =
     let ds = c.args.ds.now in
-    let some : length ds ≡ 0 → ⊥ = eqb-false (length ds) 0 (sym c.if-is-empty.ensures) in
+    let some : length ds ≡ 0 → ⊥ = eqb-false (length ds) 0 (sym c.if-is_empty.ensures) in
     sym (digits_over c.args.base c.loop-b.value c.loop-b.b-index ds c.loop-b.invariant c.loop-b-test.false some (omega (arith, c.if-value-most-2.true, c.from-most.ensures)))
 
 pub returns : goal.returns
 returns c =
     let ds = c.args.ds.now in
-    let some : length ds ≡ 0 → ⊥ = eqb-false (length ds) 0 (sym c.if-is-empty.ensures) in
+    let some : length ds ≡ 0 → ⊥ = eqb-false (length ds) 0 (sym c.if-is_empty.ensures) in
     ap (λ n. Ok (record { value = c.loop-b.value; bits = n })) c.width.ensures
     ∙ sym (digits_ok c.args.base c.loop-b.value c.loop-b.b-index ds c.loop-b.invariant c.loop-b-test.false some (omega (arith, c.if-value-most-2.false, c.from-most.ensures)))
