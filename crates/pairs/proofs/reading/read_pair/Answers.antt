@@ -10,39 +10,39 @@ pub returns-in-Err : goal.returns-in-Err
 returns-in-Err c =
     let w = c.args.words.now in
     record {
-      value = ap (λ k. Err (told c.in-Err.fault k)) c.total-word.ensures ∙ no_form c.args.form c.args.forms-equal w.number (ahead w.left) c.in-Err.fault c.in-Err.ensures;
+      value = ap (λ k. Err (told c.in-Err.fault k)) c.total-word.ensures ∙ no_form c.args.form c.args.forms_equal w.number (ahead w.left) c.in-Err.fault c.in-Err.ensures;
       rest = refl;
       number = sym (add-zero w.number);
       back = pairs_back;
     }
 
-pub returns-then-is-unequal : goal.returns-then-is-unequal
-returns-then-is-unequal c =
+pub returns-then-is_unequal : goal.returns-then-is_unequal
+returns-then-is_unequal c =
     let w = c.args.words.now in
     record {
-      value = ap (λ k. Err (told TwoForms k)) c.number-word.ensures ∙ two_forms c.args.form c.args.forms-equal w.number (ahead w.left) c.in-Ok.found c.in-Ok.ensures c.if-is-unequal.ensures;
+      value = ap (λ k. Err (told TwoForms k)) c.number-word.ensures ∙ two_forms c.args.form c.args.forms_equal w.number (ahead w.left) c.in-Ok.found c.in-Ok.ensures c.if-is_unequal.ensures;
       rest = refl;
       number = sym (add-zero w.number);
       back = pairs_back;
     }
 
-pub returns-in-default : goal.returns-in-default
-returns-in-default c =
+pub returns-in_default : goal.returns-in_default
+returns-in_default c =
     let w = c.args.words.now in
     record {
-      value = no_part c.args.form c.args.forms-equal w.number (ahead w.left) c.in-Ok.found c.in-Ok.ensures c.if-is-unequal.ensures c.in-default.ensures.parts c.missing-at-word.result c.missing-at-word.ensures;
+      value = no_part c.args.form c.args.forms_equal w.number (ahead w.left) c.in-Ok.found c.in-Ok.ensures c.if-is_unequal.ensures c.in_default.ensures.parts c.missing_at-word.result c.missing_at-word.ensures;
       rest = refl;
       number = sym (add-zero w.number);
       back = pairs_back;
     }
 
-pub returns-in-default-without-brackets : goal.returns-in-default-without-brackets
-returns-in-default-without-brackets c =
+pub returns-in_default-without_brackets : goal.returns-in_default-without_brackets
+returns-in_default-without_brackets c =
     let w = c.args.words.now in
     record {
       value =
           ap (λ k. Err (told Bracket k)) c.number-word.ensures
-          ∙ no_bracket c.args.form c.args.forms-equal w.number (ahead w.left) c.in-Ok.found c.in-Ok.ensures c.if-is-unequal.ensures c.in-Some.first.now c.in-Some.second.now c.in-Some.ensures.parts c.in-default-without-brackets.ensures;
+          ∙ no_bracket c.args.form c.args.forms_equal w.number (ahead w.left) c.in-Ok.found c.in-Ok.ensures c.if-is_unequal.ensures c.in-Some.first.now c.in-Some.second.now c.in-Some.ensures.parts c.in_default-without_brackets.ensures;
       rest = refl;
       number = sym (add-zero w.number);
       back = pairs_back;
@@ -51,9 +51,9 @@ returns-in-default-without-brackets c =
 pub returns : goal.returns
 returns c =
     let w = c.args.words.now in
-    let p = c.in-Some-without-brackets.parts in
+    let p = c.in-Some-without_brackets.parts in
     record {
-      value = pair_read c.args.form c.args.forms-equal w.number (ahead w.left) c.in-Ok.found c.in-Ok.ensures c.if-is-unequal.ensures c.in-Some.first.now c.in-Some.second.now c.in-Some.ensures.parts p.0.now p.1.now c.in-Some-without-brackets.ensures;
+      value = pair_read c.args.form c.args.forms_equal w.number (ahead w.left) c.in-Ok.found c.in-Ok.ensures c.if-is_unequal.ensures c.in-Some.first.now c.in-Some.second.now c.in-Some.ensures.parts p.0.now p.1.now c.in-Some-without_brackets.ensures;
       rest = c.in-Some.ensures.rest;
       number = c.in-Some.ensures.number;
       back = pairs_back;
