@@ -1,4 +1,4 @@
-use Rattle.std.proofs.Common.{◌≡◌, ◌+◌, ◌-◌, ◌<◌, ◌≤◌, length, take, drop, Ok, Err, sym, refl, ap, ◌∙◌, arith}
+use Rattle.std.proofs.Common.{◌≡◌, ◌+◌, ◌-◌, ◌<◌, ◌≤◌, length, take, drop, Ok, Err, sym, refl, ap, ◌∙◌, arith, rules}
 use native.Mathlib.Nat.{sub-zero}
 use Rattle.std.proofs.lemmas.List.{take_rest}
 use Rattle.ids.specs.Numbers.{number_up_to}
@@ -18,7 +18,8 @@ returns-then-eq c =
     let i = c.bang_at-first.result in
     let r = take (length s - (i + 1)) (drop (i + 1) s) in
     let h : i < length s = omega (arith, c.bang_at-first.ensures.bound, c.if-first-span.false) in
-    sym (kind_closed c.args.name.bars s r i c.bang_at-second.result c.bang_at-first.ensures.value h (take_rest s (i + 1)) c.bang_at-second.ensures.value c.if-second-rest.true c.if-eq.ensures)
+    let both : c.args.name.bars ≡ Both = (let e = c.if-eq.ensures in search rules) in
+    sym (kind_closed c.args.name.bars s r i c.bang_at-second.result c.bang_at-first.ensures.value h (take_rest s (i + 1)) c.bang_at-second.ensures.value c.if-second-rest.true both)
 
 -- the name by its pieces, once both are found
 told : (c : After-parse_number) → quant_kind (joined_text c.args.name.bars c.args.name.span.now) ≡ if_number (joined_text c.args.name.bars c.args.name.span.now) (joined_text (front_bars c.args.name.bars) (take (c.bang_at-first.result - 0) c.args.name.span.now)) c.parse_number.result
@@ -30,7 +31,7 @@ told c =
     let r = take (length s - (i + 1)) (drop (i + 1) s) in
     let h : i < length s = omega (arith, c.bang_at-first.ensures.bound, c.if-first-span.false) in
     let open_end : j ≡ length r → b ≡ Both → ⊥ = elim c.else-second-rest.branch [
-      | else-second-rest-via-then-second-rest+else-eq w ↦ λ _ both. w.if-eq.ensures both
+      | else-second-rest-via-then-second-rest+else-eq w ↦ λ _ both. (let e = w.if-eq.ensures in search rules)
       | else-second-rest-via-else-second-rest w ↦ λ end _. w.if-second-rest.false end
     ] in
     kind_told b s r i j c.bang_at-first.ensures.value h (take_rest s (i + 1)) c.bang_at-second.ensures.value c.bang_at-second.ensures.bound open_end
