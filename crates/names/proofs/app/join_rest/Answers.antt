@@ -8,11 +8,11 @@ use Rattle.names.proofs.app.join_rest.Goals as goal
 use Rattle.names.proofs.app.join_rest.Goals.{In-Some}
 
 -- the word is the first of those that are still to be joined
-split : (c : In-Some) → named (ahead c.loop-word.words.left) ≡ c.in-Some.word.now ∷ named (ahead c.next-of-name.new.words.left)
+split : (c : In-Some) → named (ahead c.loop-word.words.left) ≡ c.in-Some.word.now ∷ named (ahead c.next_of_name.new.words.left)
 split c = from_first _ _ _ c.in-Some.ensures.word c.in-Some.ensures.rest
 
-long : (c : In-Some) → length (tail (named (ahead c.loop-word.words.left))) ≡ 1 + (length c.in-Some.word.now + length (tail (named (ahead c.next-of-name.new.words.left))))
-long c = ap (λ l. length (tail l)) (split c) ∙ tail-long c.in-Some.word.now (named (ahead c.next-of-name.new.words.left))
+long : (c : In-Some) → length (tail (named (ahead c.loop-word.words.left))) ≡ 1 + (length c.in-Some.word.now + length (tail (named (ahead c.next_of_name.new.words.left))))
+long c = ap (λ l. length (tail l)) (split c) ∙ tail-long c.in-Some.word.now (named (ahead c.next_of_name.new.words.left))
 
 pub put-n-requires : goal.put-n-requires
 put-n-requires c = omega (arith, c.loop-word.invariant.0, c.requires, tail-some (named (ahead c.loop-word.words.left)))
@@ -26,7 +26,7 @@ put-requires c = omega (arith, c.loop-word.invariant.0, c.requires, tail-some (n
 pub loop-word-preserved : goal.loop-word-preserved
 loop-word-preserved c =
     let w = c.in-Some.word.now in
-    let ms = named (ahead c.next-of-name.new.words.left) in
+    let ms = named (ahead c.next_of_name.new.words.left) in
     let told = c.in-Some.ensures in
     let i = (goal.at.loop-word-preserved c).In-Some in (
       omega (arith, c.loop-word.invariant.0, long i, c.put-n.ensures.value, c.put-n-in-Some.ensures.value),
@@ -40,7 +40,7 @@ loop-word-preserved c =
 
 pub returns : goal.returns
 returns c =
-    let told = c.in-default.ensures in
+    let told = c.in_default.ensures in
     let none = none_first (named (ahead c.loop-word.words.left)) told.word in
     let long = ap (λ l. length (tail l)) none in
     record {

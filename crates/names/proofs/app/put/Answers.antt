@@ -8,16 +8,16 @@ returns-then-end-room c =
     let m = c.args.scratch.now in
     let xs = c.args.part.now in
     let n = c.args.at in
-    let e = c.copy-from-slice.ensures.after in
-    record { value = refl; written = put-fits n (n + length xs - n) xs c.copy-from-slice.new.self m e (omega arith) c.if-end-room.true }
+    let e = c.copy_from_slice.ensures.after in
+    record { value = refl; written = put-fits n (n + length xs - n) xs c.copy_from_slice.new.self m e (omega arith) c.if-end-room.true }
 
 pub returns-then-at-room : goal.returns-then-at-room
 returns-then-at-room c =
     let m = c.args.scratch.now in
     let xs = c.args.part.now in
     let n = c.args.at in
-    let e = c.copy-from-slice-then-at-room.ensures.after in
-    record { value = refl; written = put-cut n (length m - n) xs c.copy-from-slice-then-at-room.new.self m (e ∙ ap (λ k. take k xs) (sub-zero (length m - n))) refl (omega arith) (omega arith) }
+    let e = c.copy_from_slice-then-at-room.ensures.after in
+    record { value = refl; written = put-cut n (length m - n) xs c.copy_from_slice-then-at-room.new.self m (e ∙ ap (λ k. take k xs) (sub-zero (length m - n))) refl (omega arith) (omega arith) }
 
 pub returns-else-at-room : goal.returns-else-at-room
 returns-else-at-room c = record { value = refl; written = sym (at-past c.args.at c.args.part.now c.args.scratch.now c.if-at-room.false) }
