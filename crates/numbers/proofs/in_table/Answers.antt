@@ -7,7 +7,7 @@ pub returns : goal.returns
 returns g c =
     let k = g.K.Key in
     let fresh = c.new-table.ensures in
-    let all = c.enter-each.ensures in
+    let all = c.enter_each.ensures in
     let es = c.args.entries.now in
     record {
       found = c.get.ensures (all.keeps fresh.sound) ∙ ap (λ m. m.find c.args.asked) (all.means fresh.sound ∙ (λ j. entered_all k.alike (fresh.size j) (fresh.empty j) es));
