@@ -1,4 +1,5 @@
-use Rattle.std.proofs.Common.{◌≡◌, ℕ, ◌<◌, true, ltb, List, length, Option, sym, refl, arith, Bor}
+use Rattle.std.proofs.Common.{◌≡◌, ℕ, ◌<◌, true, ltb, List, length, Option, sym, refl, arith}
+use Rattle.std.specs.Borrow.{MutBor}
 use native.Mathlib.Nat.{ℕ_set}
 use Rattle.std.proofs.lemmas.Bool.{both_ways, and_parts, ltb-true}
 use Rattle.keyed.specs.Refusals.{no_room}
@@ -9,7 +10,7 @@ use Rattle.front.proofs.Layers.{entered-low, entered-high, clear_after}
 use Rattle.front.proofs.front.FrontTermIdToIdxMap.register_term.Goals as goal
 
 -- the fact that the places are 4,096 has one proof
-same_front : {I : Type 0} (o : Bor (List (Option ℕ))) (a b : Bor I) (p q : length o.now ≡ 4096) → a ≡ b → ◌≡◌ {A = Front I} (record { orders = o; below = a; long = p }) (record { orders = o; below = b; long = q })
+same_front : {I : Type 0} (o : MutBor (List (Option ℕ))) (a b : MutBor I) (p q : length o.now ≡ 4096) → a ≡ b → ◌≡◌ {A = Front I} (record { orders = o; below = a; long = p }) (record { orders = o; below = b; long = q })
 same_front o a b p q same j = record { orders = o; below = same j; long = ℕ_set (length o.now) 4096 p q j }
 
 pub returns-then-is_frontal : goal.returns-then-is_frontal
@@ -36,6 +37,6 @@ returns-else-is_frontal g c =
       keeps = λ ok. (c.register_term.ensures.keeps ok.0, clear_after s.orders.now (t.means s.below.now) c.args.id c.args.number high ok.1 t.roomy (t.size s.below.now) no_room (t.means after) c.register_term.result (c.register_term.ensures.entered ok.0));
       fixed = c.register_term.ensures.fixed;
       entered = λ ok. entered-high s.orders.now (t.means s.below.now) c.args.id c.args.number high ok.1 t.roomy (t.size s.below.now) no_room (t.means after) c.register_term.result (c.register_term.ensures.entered ok.0);
-      refused = λ e. same_front s.orders _ s.below _ s.long (λ j. record { ref_ptr = s.below.ref_ptr; ghost_name = s.below.name; now = c.register_term.ensures.refused e j });
+      refused = λ e. same_front s.orders _ s.below _ s.long (λ j. record { ref_ptr = s.below.ref_ptr; ghost_name = s.below.ghost_name; now = c.register_term.ensures.refused e j });
       improper = c.register_term.ensures.improper;
     }
