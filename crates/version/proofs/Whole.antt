@@ -106,6 +106,10 @@ tells_newness text = record {
   complete = λ v d. ap (option_map (λ w. at_least w four_nine)) (told text v d);
 }
 
+-- the same of what the code tells
+pub tells_newness_same : (text : List ℕ) (o : Option Bool) → o ≡ newness text → TellsNewness text o
+tells_newness_same text o e = subst (TellsNewness text) (sym e) (tells_newness text)
+
 compared-some : (o p : Option Semver) → is_some (then o (λ v. option_map (by_precedence v) p)) ≡ true → (v : Semver) × (w : Semver) × (o ≡ Some v) × (p ≡ Some w)
 compared-some None p h = absurd (let z : ◌≡◌ {A = ℕ} 0 1 = cc in omega arith)
 compared-some (Some v) p h = let q = mapped_some (by_precedence v) p h in (v, q.0, refl, q.1)
