@@ -1,9 +1,9 @@
 -- `parsed` tells a version just where the text is one. Assumes nothing.
-use Rattle.std.proofs.Common.{◌≡◌, ℕ, ◌<◌, Bool, true, false, cond, not, ◌&&◌, eqb, List, [], ◌∷◌, ◌++◌, map, is_some, Some, None, Option, unwrap_or, sym, refl, ap, ◌∙◌, subst, ⊎_elim, arith}
+use Rattle.std.proofs.Common.{◌≡◌, ℕ, ◌<◌, Bool, true, cond, not, ◌&&◌, eqb, List, [], ◌∷◌, ◌++◌, map, is_some, Some, None, Option, unwrap_or, sym, refl, ap, ◌∙◌, subst, ⊎_elim, arith}
 use Rattle.std.specs.Option.{option_map}
 use Rattle.std.proofs.lemmas.List.{append_assoc}
 use Rattle.std.proofs.lemmas.Bool.{and_parts, cond-true, cond-false, cases_Bool}
-use Rattle.version.specs.Grammar.{every, character, decimal, limit, Identifier, Semver, spelled, proper, tagged, dotted, marked, written, Denotes}
+use Rattle.version.specs.Grammar.{every, character, decimal, limit, Semver, spelled, proper, tagged, marked, written, Denotes}
 use Rattle.version.specs.Precedence.{by_precedence, at_least, four_nine}
 use Rattle.version.specs.Reader.{then, cut_at, fields_of, core_of, released, identifier_of, assembled, parsed}
 use Rattle.version.specs.Law.{newness, compared, Tells, TellsNewness, TellsPrecedence}

@@ -1,4 +1,4 @@
-use Rattle.std.proofs.Common.{◌≡◌, sym, ◌∙◌}
+use Rattle.std.proofs.Common.{sym, ◌∙◌}
 use Rattle.std.specs.Ordering.{ordering_then}
 use Rattle.version.proofs.Compare.{by_texts, by_values}
 use Rattle.version.proofs.Orders.{lex_bytes}

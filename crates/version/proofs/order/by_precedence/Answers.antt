@@ -1,4 +1,4 @@
-use Rattle.std.proofs.Common.{◌≡◌, sym, ap, ◌∙◌}
+use Rattle.std.proofs.Common.{◌∙◌}
 use Rattle.std.specs.Ordering.{ordering_then}
 use Rattle.version.specs.Precedence.{by_precedence}
 use Rattle.version.proofs.order.by_precedence.Goals as goal
