@@ -1,4 +1,4 @@
-use Rattle.std.proofs.Common.{◌≡◌, ℕ, ◌/◌, ◌^◌, ◌<◌, true, nat_abs, sym, ap, ◌∙◌, subst, arith}
+use Rattle.std.proofs.Common.{◌≡◌, ◌/◌, ◌<◌, true, nat_abs, sym, ap, ◌∙◌, subst, arith}
 use Rattle.fraction.specs.Bounds.{fits}
 use Rattle.fraction.specs.Divisors.{gcd}
 use Rattle.fraction.proofs.Gcd.{gcd-pos, den_pos, gcd-over}
