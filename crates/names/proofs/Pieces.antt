@@ -1,7 +1,7 @@
 -- The pieces of a joined text between `!` signs. Assumes nothing.
 use Rattle.std.proofs.Common.{◌≡◌, ℕ, suc, ◌+◌, ◌-◌, ◌*◌, ◌<◌, ◌≤◌, Bool, true, false, cond, not, ◌&&◌, eqb, ltb, leb, List, [], ◌∷◌, ◌++◌, length, take, drop, Ok, Err, Result, sym, refl, ap, ◌∙◌, subst, ⊎_elim, append_assoc, append-nil, suc-add, arith, length-append}
 use lib.ListN.{length-map}
-use Rattle.std.specs.List.{prefix_len, AllByRecursion as All}
+use Rattle.std.specs.List.{prefix_len, AllByRecursion}
 use Rattle.std.proofs.lemmas.Bool.{cond-true, cond-false, cases_Bool, eqb-true, ne_eqb, lt-leb, lt-ltb, cases_eq}
 use Rattle.std.proofs.lemmas.List.{take_all}
 use Rattle.ids.specs.declared.number.NumberFault.{NumberFault}
@@ -63,7 +63,7 @@ number-spaces l s = ap (λ k. numeral l k (unsigned (spaces s))) (sign-spaces s)
 
 -- no `!` among the bytes
 abbrev pub Free : List ℕ → Type 0
-Free s = All (λ b. bang b ≡ false) s
+Free s = AllByRecursion (λ b. bang b ≡ false) s
 
 free_both : (x y : List ℕ) → Free x → Free y → Free (x ++ y)
 free_both [] y h k = k
