@@ -49,7 +49,7 @@ fn identifiers(rt: HostRuntime) -> Result<(), Fail> {
     assert!(rt; plain.namespace.is_none());
     assert_eq!(rt; plain.order(), 4_294_967_295);
     let theory = parse_id(b"arith#")?;
-    assert!(rt; theory.namespace.ok_or("namespace")? == b"arith");
+    assert!(rt; theory.namespace.ok_or("namespace")? == b"arith".as_slice());
     assert_eq!(rt; theory.number, None);
     assert_eq!(rt; theory.order(), 0);
     assert!(rt; parse_id(b"#").is_ok());

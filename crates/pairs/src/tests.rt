@@ -71,15 +71,15 @@ fn pairs_one_by_one(rt: HostRuntime) -> Result<(), Fail> {
     let mut words = behind_id(b"x #5 (a;b) (c ; d) (e f)");
     let first = read_pair(&mut words, None, true).ok().ok_or("a pair")?;
     assert_eq!(rt; first.form, Form::OneWord);
-    assert!(rt; first.parts.0 == b"a");
-    assert!(rt; first.parts.1 == b"b");
+    assert!(rt; first.parts.0 == b"a".as_slice());
+    assert!(rt; first.parts.1 == b"b".as_slice());
     assert!(rt; read_pair(&mut words, Some(first.form), true).is_err());
     assert_eq!(rt; words.number(), 3);
     let second = read_pair(&mut words, Some(first.form), false)
         .ok()
         .ok_or("a pair")?;
     assert_eq!(rt; second.form, Form::Apart);
-    assert!(rt; second.parts.1 == b"d");
+    assert!(rt; second.parts.1 == b"d".as_slice());
     assert_eq!(rt; words.number(), 6);
     Ok(())
 }
@@ -89,13 +89,13 @@ fn parts_are_sorted(rt: HostRuntime) -> Result<(), Fail> {
     let (name, sort) = sort_pair(NameForm::NameAndType, (b"|a|", b"||"))
         .ok()
         .ok_or("a name")?;
-    assert!(rt; name == b"a");
+    assert!(rt; name == b"a".as_slice());
     assert!(rt; sort.is_empty());
     let (none, kept) = sort_pair(NameForm::TypeOnly, (b"", b"|T|"))
         .ok()
         .ok_or("a type")?;
     assert!(rt; none.is_empty());
-    assert!(rt; kept == b"|T|");
+    assert!(rt; kept == b"|T|".as_slice());
     assert!(rt; sort_pair(NameForm::TypeOnly, (b"a", b"T")).is_err());
     Ok(())
 }

@@ -5,11 +5,11 @@ use std::test::Fail;
 fn words_may_be_empty(rt: HostRuntime) -> Result<(), Fail> {
     let mut words = Words::of(b"[mk-app]  #5\tfoo ");
     assert_eq!(rt; words.total(), 5);
-    assert!(rt; words.next().ok_or("word 0")? == b"[mk-app]");
+    assert!(rt; words.next().ok_or("word 0")? == b"[mk-app]".as_slice());
     assert!(rt; words.next().ok_or("word 1")?.is_empty());
     assert_eq!(rt; words.number(), 2);
-    assert!(rt; words.next().ok_or("word 2")? == b"#5");
-    assert!(rt; words.next().ok_or("word 3")? == b"foo");
+    assert!(rt; words.next().ok_or("word 2")? == b"#5".as_slice());
+    assert!(rt; words.next().ok_or("word 3")? == b"foo".as_slice());
     assert!(rt; words.next().ok_or("word 4")?.is_empty());
     assert!(rt; words.next().is_none());
     assert_eq!(rt; words.number(), 5);
@@ -31,10 +31,10 @@ fn spans_run_over_separators(rt: HostRuntime) -> Result<(), Fail> {
     let mut words = Words::of(b"a b\rc d");
     assert!(rt; words.span(0).is_none());
     assert!(rt; words.span(5).is_none());
-    assert!(rt; words.span(3).ok_or("three words")? == b"a b\rc");
+    assert!(rt; words.span(3).ok_or("three words")? == b"a b\rc".as_slice());
     assert_eq!(rt; words.number(), 3);
-    assert!(rt; words.rest_of_line().ok_or("a word")? == b"d");
-    assert!(rt; words.span(1).ok_or("one word")? == b"d");
+    assert!(rt; words.rest_of_line().ok_or("a word")? == b"d".as_slice());
+    assert!(rt; words.span(1).ok_or("one word")? == b"d".as_slice());
     assert!(rt; words.rest_of_line().is_none());
     Ok(())
 }

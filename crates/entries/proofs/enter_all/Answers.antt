@@ -17,17 +17,17 @@ pub loop-i-preserved : goal.loop-i-preserved
 loop-i-preserved g c =
     let t = g.I.TermIdToIdxMap in
     let s = c.loop-i.index in
-    let after = c.register-term.new.self in
+    let after = c.register_term.new.self in
     let es = c.loop-i.entries in
     let j = c.loop-i.i in
     let e = at es j in
-    let b = c.is-ok-taken.result in
+    let b = c.is_ok-taken.result in
     let inv = c.loop-i.invariant in (
-      (λ ok. c.register-term.ensures.keeps (inv.0 ok)),
-      c.register-term.ensures.fixed ∙ inv.1,
+      (λ ok. c.register_term.ensures.keeps (inv.0 ok)),
+      c.register_term.ensures.fixed ∙ inv.1,
       (λ ok none.
-          let ways = c.register-term.ensures.entered (inv.0 ok) in
-          let taken : b ≡ t.roomy (t.size s) (kept (t.means s)) e.id = c.is-ok-taken.ensures.value ∙ ok_is (t.roomy (t.size s) (kept (t.means s)) e.id) ((t.means s).find e.id) no_room c.register-term.result ways.answers in
+          let ways = c.register_term.ensures.entered (inv.0 ok) in
+          let taken : b ≡ t.roomy (t.size s) (kept (t.means s)) e.id = c.is_ok-taken.ensures.value ∙ ok_is (t.roomy (t.size s) (kept (t.means s)) e.id) ((t.means s).find e.id) no_room c.register_term.result ways.answers in
           let lt : j < length es = omega (arith, c.loop-i.auto.entries, c.loop-i-test.true) in
           more t.roomy (t.size c.args.index.now) c.args.entries.now es j lt (t.means s) (t.means after) e b
           (taken ∙ ap (λ n. t.roomy n (kept (t.means s)) e.id) inv.1)

@@ -6,8 +6,8 @@ use Rattle.makes.proofs.in_front.Goals as goal
 
 pub returns : goal.returns
 returns c =
-    let fresh = c.term-table-table.ensures in
+    let fresh = c.term_table-table.ensures in
     let made = c.new-front.ensures in
-    let asked = c.enter-and-ask.ensures (made.sound fresh.sound fresh.empty) (made.empty fresh.empty) in
-    subst (λ n. Asked (front_room ident_room) n c.args.entries.now c.enter-and-ask.new.entries c.args.id c.enter-and-ask.result)
+    let asked = c.enter_and_ask.ensures (made.sound fresh.sound fresh.empty) (made.empty fresh.empty) in
+    subst (λ n. Asked (front_room ident_room) n c.args.entries.now c.enter_and_ask.new.entries c.args.id c.enter_and_ask.result)
     (made.size ∙ fresh.size) asked

@@ -30,7 +30,7 @@ loop-line-preserved c = running_more _ _ _ _ _ _ _ _ (going (goal.at.loop-line-p
 pub returns : goal.returns
 returns c =
     let all = ahead c.of-lines.result.mode c.of-lines.result.left in
-    let none = none_first (ahead c.loop-line.lines.mode c.loop-line.lines.left) c.in-default.ensures.line in
+    let none = none_first (ahead c.loop-line.lines.mode c.loop-line.lines.left) c.in_default.ensures.line in
     subst (λ ls. CensusOf ls c.loop-line.found c.args.bad.now c.loop-line.bad) c.of-lines.ensures.lines
     (running_end all c.loop-line.found c.args.bad.now c.loop-line.bad
     (subst (λ l. Running all l c.loop-line.found c.args.bad.now c.loop-line.bad) none c.loop-line.invariant))

@@ -36,12 +36,12 @@ returns-in-Unknown c =
       told = sym (ap (λ o. laid_from f.bad_ids (noted f.lines o) c.args.bad.now) q.cause ∙ laid_none f.bad_ids c.args.bad.now);
     }
 
-pub returns-else-names-id : goal.returns-else-names-id
-returns-else-names-id c =
+pub returns-else-names_id : goal.returns-else-names_id
+returns-else-names_id c =
     let l = c.args.line.now in
     let f = c.args.found.now in
     let e = c.in-Known.ensures in
-    let q = quiet l (sym (c.if-names-id.ensures ∙ ap asks_id e)) in
+    let q = quiet l (sym (c.if-names_id.ensures ∙ ap asks_id e)) in
     record {
       lines = refl;
       kinds = ap (λ n. set f.kinds n (get_or f.kinds n 0 + 1)) c.number.ensures.value ∙ ap (λ v. bumped v f.kinds) e;

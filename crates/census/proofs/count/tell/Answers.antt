@@ -14,7 +14,7 @@ returns-else-told-bad c =
     let m = c.args.bad.now in
     sym (ap (λ o. laid_from c.args.told (noted c.args.line o) m) c.in-Some.is ∙ laid-past c.args.told _ m c.if-told-bad.false)
 
-pub returns-in-default : goal.returns-in-default
-returns-in-default c =
+pub returns-in_default : goal.returns-in_default
+returns-in_default c =
     let m = c.args.bad.now in
-    sym (ap (λ o. laid_from c.args.told (noted c.args.line o) m) c.in-default.is ∙ laid_none c.args.told m)
+    sym (ap (λ o. laid_from c.args.told (noted c.args.line o) m) c.in_default.is ∙ laid_none c.args.told m)

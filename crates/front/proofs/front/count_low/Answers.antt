@@ -16,8 +16,8 @@ next : (h : ℕ → Bool) (n : ℕ) → length (low_keys h (n + 1)) ≡ length (
 unfolding low_keys
 next h n = ap (λ i. length (low_keys h i)) (add-one n) ∙ length-cond (h n) n (low_keys h n)
 
-pub overflow-add-held : goal.overflow-add-held
-overflow-add-held c = omega (arith, small c.is-some.result, c.from-held.ensures, c.loop-order.invariant.1)
+pub overflow_add-held : goal.overflow_add-held
+overflow_add-held c = omega (arith, small c.is_some.result, c.from-held.ensures, c.loop-order.invariant.1)
 
 pub loop-order-init : goal.loop-order-init
 unfolding low_keys
@@ -27,8 +27,8 @@ pub loop-order-preserved : goal.loop-order-preserved
 loop-order-preserved c =
     let h = filled c.args.orders.now in
     let o = c.loop-order.order in
-    let one : c.from-held.result ≡ cond (h o) 1 0 = c.from-held.ensures ∙ byte c.is-some.result ∙ ap (λ b. cond b 1 0) c.is-some.ensures in
-    (omega (arith, next h o, one, c.loop-order.invariant.0), omega (arith, small c.is-some.result, c.from-held.ensures, c.loop-order.invariant.1))
+    let one : c.from-held.result ≡ cond (h o) 1 0 = c.from-held.ensures ∙ byte c.is_some.result ∙ ap (λ b. cond b 1 0) c.is_some.ensures in
+    (omega (arith, next h o, one, c.loop-order.invariant.0), omega (arith, small c.is_some.result, c.from-held.ensures, c.loop-order.invariant.1))
 
 pub returns : goal.returns
 returns c =

@@ -1,5 +1,4 @@
-use Rattle.std.proofs.Common.{◌≡◌, ℕ, ◌+◌, true, false, cond, length, get_or, drop, sym, ap, arith}
-use Rattle.words.specs.Words.{separates, words_of}
+use Rattle.std.proofs.Common.{ℕ, cond, ap, arith}
 use Rattle.words.proofs.Cut.{count_more, count_all}
 use Rattle.words.proofs.cursor.count_words.Goals as goal
 use Rattle.words.proofs.cursor.count_words.Goals.{then-is_separator, else-is_separator}

@@ -1,4 +1,4 @@
-use Rattle.std.proofs.Common.{◌≡◌, ℕ, ◌+◌, ◌-◌, length, drop, Some, None, Option, sym, ap, ◌∙◌, arith}
+use Rattle.std.proofs.Common.{◌≡◌, ℕ, ◌+◌, length, drop, Some, None, Option, sym, ap, ◌∙◌, arith}
 use Rattle.words.specs.Words.{words_of}
 use Rattle.words.proofs.Spans.{placed, later, placed_end, step_one, step_sep, step_in, stop_one, stop_not, end_of, within_of}
 use Rattle.words.proofs.cursor.span_end.Goals as goal

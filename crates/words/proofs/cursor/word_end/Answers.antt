@@ -1,4 +1,4 @@
-use Rattle.std.proofs.Common.{◌≡◌, true, false, not, get_or, sym, ap, arith}
+use Rattle.std.proofs.Common.{not, sym, ap, arith}
 use Rattle.std.proofs.lemmas.List.Sums.{prefix_len-drop_yes, prefix_len-drop_no, prefix_len-drop_all}
 use Rattle.words.specs.Words.{separates}
 use Rattle.words.proofs.cursor.word_end.Goals as goal

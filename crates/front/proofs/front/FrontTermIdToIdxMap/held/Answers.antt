@@ -9,4 +9,4 @@ returns g c ok =
     let t = g.I.TermIdToIdxMap in
     let s = c.args.self.now in
     let below = c.held.ensures ok.0 in
-    c.saturating-add.ensures ∙ (λ j. min (c.count-low.ensures j + below j) 18446744073709551615) ∙ capped _ (t.means s.below.now).count 18446744073709551615
+    c.saturating_add.ensures ∙ (λ j. min (c.count_low.ensures j + below j) 18446744073709551615) ∙ capped _ (t.means s.below.now).count 18446744073709551615

@@ -6,12 +6,12 @@ use Rattle.keyed.specs.Tables.{table_means, room_for}
 use Rattle.index.proofs.Improper.{none_after, entered-proper}
 use Rattle.index.proofs.table.SlotTableIdentU32TermIdToIdxMap.register_term.Goals as goal
 
-pub returns-then-is-proper : goal.returns-then-is-proper
-returns-then-is-proper c =
+pub returns-then-is_proper : goal.returns-then-is_proper
+returns-then-is_proper c =
     let t = c.args.self.now in
     let i = c.args.id in
     let n = c.args.number in
-    let fits = sym c.if-is-proper.ensures in
+    let fits = sym c.if-is_proper.ensures in
     let done = c.put.ensures in
     let room = room_for same_ident t i in
     let before = table_means same_ident t in

@@ -5,10 +5,10 @@ use Rattle.keyed.specs.Tables.{room_for}
 use Rattle.index.proofs.Improper.{with_proper}
 use Rattle.index.proofs.table.SlotTableIdentU32TermIdToIdxMap.room.Goals as goal
 
-pub returns-then-is-proper : goal.returns-then-is-proper
-returns-then-is-proper c =
-    let fits = sym c.if-is-proper.ensures in
+pub returns-then-is_proper : goal.returns-then-is_proper
+returns-then-is_proper c =
+    let fits = sym c.if-is_proper.ensures in
     record {
-      value = λ ok. c.has-room.ensures ok.0 ∙ with_proper (proper_ident c.args.id) (room_for same_ident c.args.self.now c.args.id) fits;
+      value = λ ok. c.has_room.ensures ok.0 ∙ with_proper (proper_ident c.args.id) (room_for same_ident c.args.self.now c.args.id) fits;
       improper = λ bad. absurd (both_ways _ bad fits);
     }

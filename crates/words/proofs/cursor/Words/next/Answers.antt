@@ -1,8 +1,8 @@
-use Rattle.std.proofs.Common.{◌≡◌, ◌<◌, length, sym, ap, ◌∙◌, arith, length-drop, rules}
+use Rattle.std.proofs.Common.{◌<◌, length, sym, ap, ◌∙◌, arith, length-drop, rules}
 use native.Mathlib.Nat.{sub-zero}
 use Rattle.std.proofs.lemmas.List.{take_rest}
 use Rattle.words.specs.Words.{separates, ahead, first_of, rest_of, size_left}
-use Rattle.words.proofs.Cut.{taken, taken_last, words_count}
+use Rattle.words.proofs.Cut.{taken, taken_last}
 use Rattle.words.proofs.cursor.Words.next.Goals as goal
 
 pub overflow_add-self : goal.overflow_add-self

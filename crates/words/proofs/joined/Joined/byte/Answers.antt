@@ -1,4 +1,4 @@
-use Rattle.std.proofs.Common.{◌≡◌, ℕ, true, false, sym, ap, ◌∙◌, arith, rules}
+use Rattle.std.proofs.Common.{◌≡◌, sym, ap, ◌∙◌, rules}
 use Rattle.words.specs.declared.joined.Bars.TheVariants.{Bare, Both}
 use Rattle.std.specs.List.{slice_get}
 use Rattle.words.specs.Joined.{joined_text}
