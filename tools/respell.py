@@ -5,7 +5,7 @@ usage: respell.py            at the top of the repository, once, after the toolc
        respell.py --table    prints the table of old and new names, and changes nothing
 
 Words are in snake case: `wordsOf` becomes `words_of`. A dash joins the name of a definition to the rest (`length-bare`); between plain
-words it becomes `_`. Types, modules and constructors stay, and so do names of src/, the goals and steps that the check names, strings
+words it becomes `_`. Types are in camel case. Modules and constructors stay, and so do names of src/, the goals and steps that the check names, strings
 and outputs. Where two names would fall together the lemma gets `_lem`, as the library has it; where a definition would have the name of
 a field of src/, CHOSEN says the new one. It goes by the declarations that it finds, so a second run changes nothing.
 """
@@ -39,7 +39,7 @@ def texts(pattern):
 
 def declared():
     """The repository's own names: definitions, lemmas and fields of records, and the files that declare each."""
-    found, fields, defs = collections.defaultdict(set), set(), set()
+    found, fields, defs, types = collections.defaultdict(set), set(), set(), set()
     for p in texts("specs/**/*.antt") + texts("proofs/**/*.antt"):
         within = None
         for line in open(p, encoding="utf-8"):
@@ -53,16 +53,20 @@ def declared():
             found[m[3]].add(p)
             if m[1] and within == "record":
                 fields.add(m[3])
+            if m[3][:1].isupper() and re.search(r"record|data|abbrev", m[2]):
+                types.add(m[3])
             if "/specs/" in p and re.search(r"abbrev|unfoldable", m[2]):
                 defs.add(m[3])
-    return found, fields, defs
+    return found, fields, defs, types
 
 
 def camel(name):
     return re.sub(r"(?<=[a-z0-9])[A-Z]+", lambda m: "_" + m[0].lower(), name)
 
 
-def snake(name, defs, fields):
+def snake(name, defs, fields, types):
+    if name in types:
+        return "".join(it[:1].upper() + it[1:] for it in name.split("-"))
     if not name[:1].islower():
         return name
     parts = name.split("-")
@@ -77,8 +81,8 @@ def snake(name, defs, fields):
 
 
 def table():
-    found, fields, defs = declared()
-    new = {n: CHOSEN.get(n, snake(n, defs, fields)) for n in found}
+    found, fields, defs, types = declared()
+    new = {n: CHOSEN.get(n, snake(n, defs, fields, types)) for n in found}
     stay = {n for n in found if new[n] == n}
     turned = {}
     taken = set(stay) - set(CHOSEN.values())

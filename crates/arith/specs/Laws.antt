@@ -30,6 +30,6 @@ pub record Denotes (text : List ℕ) (f : Ratio) : Type 0 where
   pub number : Is (worth expr) f
 
 -- what is answered is the number that the text denotes, and every text that denotes one is taken
-pub record Arith-stands : Type 0 where
+pub record ArithStands : Type 0 where
   pub sound : (text : List ℕ) (f : Ratio) → arith_value text ≡ Ok f → Denotes text f
   pub complete : (text : List ℕ) (f : Ratio) → Denotes text f → arith_value text ≡ Ok f

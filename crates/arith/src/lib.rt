@@ -6,7 +6,7 @@ ghost use Rattle.std.specs.Option.{option_map};
 ghost use Rattle.fraction.specs.Fractions.{ratio};
 ghost use Rattle.fraction.specs.Ratios.{Ratio};
 ghost use Rattle.arith.specs.Examples.{Examples};
-ghost use Rattle.arith.specs.Laws.{Arith-stands, Denotes};
+ghost use Rattle.arith.specs.Laws.{ArithStands, Denotes};
 ghost use Rattle.words.specs.Joined.{spaces};
 ghost use Rattle.arith.specs.Faults.{value_fault, value_fault_number};
 ghost use Rattle.arith.specs.Values.{arith_value, at_close, cut_at_space, digit, digits_after, fold_in, literal_of, operator_of, value_at};
@@ -211,7 +211,7 @@ pub fn parse_arith(span: &[u8]) -> Result<Fraction, ValueFault>
 
 // The same of the definition, for every text, and its worked examples; the answer is one of them.
 pub fn arith_stands() -> Result<Fraction, ValueFault>
-    ensures laws { Arith-stands }
+    ensures laws { ArithStands }
     ensures examples { Examples }
     ensures read { answered result ≡ arith_value (spaces (codes "(/ 6 (- 4))")) }
 {

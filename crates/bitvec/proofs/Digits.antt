@@ -1,5 +1,5 @@
 -- One digit after another, and a space for each separator. Assumes nothing.
-use Rattle.std.proofs.Common.{◌≡◌, ℕ, zero, suc, ◌+◌, ◌-◌, ◌*◌, ◌<◌, ◌≤◌, Bool, true, false, cond, ◌&&◌, eqb, leb, List, [], ◌∷◌, map, length, get_or, drop, Some, None, Ok, Err, Option, Result, sym, refl, ap, ◌∙◌, arith}
+use Rattle.std.proofs.Common.{◌≡◌, ℕ, ◌+◌, ◌*◌, ◌<◌, ◌≤◌, Bool, true, false, cond, ◌&&◌, eqb, leb, List, [], ◌∷◌, length, get_or, drop, Some, None, Ok, Err, Option, Result, sym, refl, ap, ◌∙◌, arith}
 use lib.ListN.{length-map}
 use Rattle.std.proofs.lemmas.List.{at_drop_more, at_drop_all}
 use Rattle.std.proofs.lemmas.Bool.{cond-true, cond-false, eq-eqb, ne_eqb, le-leb, lt-leb}
@@ -10,7 +10,7 @@ use Rattle.bitvec.specs.declared.Base.TheVariants.{Binary, Hexadecimal}
 use Rattle.bitvec.specs.declared.BitVec.{BitVec}
 use Rattle.bitvec.specs.declared.BitVecFault.{BitVecFault}
 use Rattle.bitvec.specs.declared.BitVecFault.TheVariants.{Unreadable, TooLarge}
-use Rattle.bitvec.specs.BitVecs.{between, hex_digit, bit_digit, digit_in, radix, bits_of, step_in, number_from, sized, numbered, of_digits, of_base, bit_vec}
+use Rattle.bitvec.specs.BitVecs.{between, hex_digit, digit_in, radix, bits_of, step_in, number_from, sized, numbered, of_digits, of_base, bit_vec}
 
 -- a bad digit is never mended
 never : (t : Base) (ds : List ℕ) → number_from t None ds ≡ None

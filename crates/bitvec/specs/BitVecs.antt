@@ -1,7 +1,7 @@
 -- Bit-vector values: `#x` or `#b` and one or more digits of SMT-LIB 2.6: hexadecimal digits of both cases, or the digits 0 and 1; no sign
 -- and no underscore. The whole value counts. Its width is 4 bits, or 1 bit, for each digit. A value of 2^64 or more is too large, and so
 -- told only where all digits are good. Assumes nothing.
-use Rattle.std.specs.Prelude.{ℕ, ◌+◌, ◌-◌, ◌*◌, Bool, true, false, cond, ◌&&◌, List, [], ◌∷◌, length, is_some, Some, None, Ok, Err, fold, Option, Result, ◌==◌, nat_le}
+use Rattle.std.specs.Prelude.{ℕ, ◌+◌, ◌-◌, ◌*◌, Bool, cond, ◌&&◌, List, [], ◌∷◌, length, Some, None, Ok, Err, fold, Option, Result, ◌==◌, nat_le}
 use Rattle.bitvec.specs.declared.Base.{Base}
 use Rattle.bitvec.specs.declared.Base.TheVariants.{Binary, Hexadecimal}
 use Rattle.bitvec.specs.declared.BitVec.{BitVec}

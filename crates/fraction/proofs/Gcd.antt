@@ -1,7 +1,7 @@
 -- Euclid's steps. Assumes nothing.
 use Rattle.std.proofs.Common.{◌≡◌, ℕ, zero, suc, ◌+◌, ◌*◌, ◌/◌, ◌%◌, ◌<◌, ◌≤◌, sym, refl, ap, ◌∙◌, subst, mod-lt, mul-le-mul_left, mul-pos, one-mul, le-div_iff_mul-le, zero-mul, mul-div_cancel, arith}
 use Prim.Native.Nat.{◌∣◌}
-use native.Mathlib.Nat.{dvd_refl, dvd-zero, dvd-mod_iff, pos_of_dvd_of_pos, le_of_dvd, dvd_trans, div-mul_cancel, mul-dvd-mul_right, dvd_of_mul-dvd-mul_right, eq-one_of_dvd-one, mul-mod_left, dvd-mul_right}
+use native.Mathlib.Nat.{dvd_refl, dvd-zero, dvd-mod_iff, pos_of_dvd_of_pos, le_of_dvd, div-mul_cancel, mul-dvd-mul_right, dvd_of_mul-dvd-mul_right, eq-one_of_dvd-one, mul-mod_left, dvd-mul_right}
 use lib.Arith.{mod-mul}
 use Rattle.fraction.specs.Divisors.{gcd_by, gcd}
 

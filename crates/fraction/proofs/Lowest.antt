@@ -1,10 +1,9 @@
 -- Lowest terms: the same number, and only one such. Assumes nothing.
-use Rattle.std.proofs.Common.{◌≡◌, ℕ, zero, suc, ◌+◌, ◌*◌, ◌/◌, ◌<◌, ◌≤◌, Bool, true, false, cond, ℤ, pos, negsuc, ◌*ℤ◌, neg_ℤ, nat_abs, Ok, Err, Result, sym, refl, ap, ◌∙◌, subst, ⊎_elim, mul_comm, mul-pos, arith}
+use Rattle.std.proofs.Common.{◌≡◌, ℕ, zero, suc, ◌+◌, ◌*◌, ◌/◌, ◌<◌, Bool, true, false, cond, ℤ, pos, negsuc, neg_ℤ, nat_abs, Ok, Err, sym, refl, ap, ◌∙◌, subst, mul-pos, arith}
 use Prim.Native.Nat.{◌∣◌}
 use native.Mathlib.Nat.{div-mul_cancel, eq_of_mul-eq-mul_right, dvd_antisymm, dvd-mul_left, eq-one_of_dvd-one}
 use borrow.Author.Differences.{up, down, neg_is}
-use Rattle.std.proofs.lemmas.Bool.{cases_Bool, cond-true, cond-false}
-use Rattle.fraction.specs.declared.FractionFault.{FractionFault}
+use Rattle.std.proofs.lemmas.Bool.{cond-true}
 use Rattle.fraction.specs.declared.FractionFault.TheVariants.{TooLarge}
 use Rattle.fraction.specs.Divisors.{gcd}
 use Rattle.fraction.specs.Bounds.{fits}

@@ -1,8 +1,8 @@
 -- Ratios that are one number, and the arithmetic of such. Assumes nothing.
-use Rattle.std.proofs.Common.{◌≡◌, ℕ, zero, suc, ◌+◌, ◌*◌, ◌<◌, ◌≤◌, ℤ, pos, negsuc, ◌+ℤ◌, ◌*ℤ◌, neg_ℤ, nat_abs, sym, refl, ap, ◌∙◌, subst, mul-pos, arith}
+use Rattle.std.proofs.Common.{◌≡◌, ℕ, zero, suc, ◌+◌, ◌*◌, ◌<◌, ℤ, pos, negsuc, ◌*ℤ◌, nat_abs, sym, refl, ap, ◌∙◌, mul-pos, arith}
 use native.Mathlib.Nat.{eq_of_mul-eq-mul_right}
 use borrow.Author.Differences.{up, down, same_in, sum_is_lem, neg_is, product_is}
-use Rattle.fraction.specs.Ratios.{Ratio, Same, sum, product, negative, difference, inverse, quotient, with_sign}
+use Rattle.fraction.specs.Ratios.{Ratio, Same, sum, product, negative, difference, inverse, quotient}
 
 -- an integer times a number, by its two parts
 times-up : (z : ℤ) (d : ℕ) → up (z *ℤ pos d) ≡ up z * d

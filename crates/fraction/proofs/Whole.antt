@@ -1,5 +1,5 @@
 -- Whole numbers in lowest terms. Assumes nothing.
-use Rattle.std.proofs.Common.{◌≡◌, ℕ, ◌^◌, ◌<◌, ◌≤◌, Bool, true, false, cond, pos, Ok, Err, Result, sym, refl, ap, ◌∙◌, ⊎_elim, div-one, arith}
+use Rattle.std.proofs.Common.{◌≡◌, ℕ, ◌^◌, ◌<◌, ◌≤◌, cond, pos, Ok, Err, ap, ◌∙◌, ⊎_elim, div-one, arith}
 use Rattle.std.proofs.lemmas.Bool.{cases_Bool, cond-false}
 use Rattle.fraction.specs.declared.FractionFault.TheVariants.{TooLarge}
 use Rattle.fraction.specs.Bounds.{fits}

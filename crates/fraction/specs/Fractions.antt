@@ -1,5 +1,5 @@
 -- Fractions in lowest terms that fit, and their arithmetic. Assumes nothing.
-use Rattle.std.specs.Prelude.{ℕ, ◌/◌, Bool, cond, ℤ, Ok, Err, Result, ◌==◌, unsigned_abs}
+use Rattle.std.specs.Prelude.{ℕ, ◌/◌, cond, ℤ, Ok, Err, Result, ◌==◌, unsigned_abs}
 use Rattle.fraction.specs.declared.FractionFault.{FractionFault}
 use Rattle.fraction.specs.declared.FractionFault.TheVariants.{ZeroDivisor, TooLarge}
 use Rattle.fraction.specs.declared.terms.Fraction.{Fraction}

@@ -2,7 +2,7 @@
 #![tactic(auto)]
 
 ghost use Rattle.std.specs.Prelude.{◌≡◌, ℕ, ◌+◌, ◌*◌, ◌^◌, ◌<◌, ◌≤◌, pos, ◌*ℤ◌, unsigned_abs};
-ghost use Rattle.fraction.specs.Laws.{Greatest-divisor, Lowest-stands};
+ghost use Rattle.fraction.specs.Laws.{GreatestDivisor, LowestStands};
 ghost use Rattle.fraction.specs.Bounds.{fits};
 ghost use Rattle.fraction.specs.Divisors.{gcd};
 ghost use Rattle.fraction.specs.Ratios.{negative, whole, with_sign};
@@ -154,8 +154,8 @@ impl Fraction {
 
 // What `gcd` and `lowest` of the definitions are; the answer is the largest whole number within the bounds.
 pub fn fractions_stand() -> Result<Fraction, FractionFault>
-    ensures divisor { Greatest-divisor }
-    ensures terms { Lowest-stands }
+    ensures divisor { GreatestDivisor }
+    ensures terms { LowestStands }
     ensures largest { told result ≡ lowest (whole 2147483647) }
 {
     Fraction::whole_number(2_147_483_647)

@@ -1,6 +1,6 @@
 -- A number is at most one plus sign and then one or more decimal digits, with a value up to a limit; any count of leading zeros is
 -- allowed. What is wrong is told in this order: no digits, a byte that is no digit, a value over the limit. Assumes nothing.
-use Rattle.std.specs.Prelude.{ℕ, ◌+◌, ◌-◌, ◌*◌, Bool, true, false, cond, ◌&&◌, List, [], ◌∷◌, length, Ok, Err, fold, Result, ◌==◌, nat_le, nat_lt}
+use Rattle.std.specs.Prelude.{ℕ, ◌+◌, ◌-◌, ◌*◌, Bool, cond, ◌&&◌, List, [], ◌∷◌, length, Ok, Err, fold, Result, ◌==◌, nat_le, nat_lt}
 use Rattle.std.specs.List.{prefix_len}
 use Rattle.ids.specs.declared.number.NumberFault.{NumberFault}
 use Rattle.ids.specs.declared.number.NumberFault.TheVariants.{Empty, NotDigit, TooLarge}

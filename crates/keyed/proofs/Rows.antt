@@ -1,5 +1,5 @@
 -- What a row of slots means, and what a store into one slot makes of it. Assumes nothing.
-use Rattle.std.proofs.Common.{◌≡◌, ℕ, zero, suc, ◌+◌, ◌%◌, ◌<◌, ◌≤◌, Bool, true, false, cond, ◌||◌, ltb, ◌⊎◌, List, [], ◌∷◌, length, get_or, set, is_some, Some, None, Option, sym, refl, ap, ◌∙◌, subst, inl, inr, ⊎_elim, mod-lt, arith, length-set, get_or-set_other, get_or-set_same}
+use Rattle.std.proofs.Common.{◌≡◌, ℕ, zero, suc, ◌+◌, ◌%◌, ◌<◌, ◌≤◌, Bool, true, false, cond, ltb, ◌⊎◌, List, [], ◌∷◌, length, get_or, set, is_some, Some, None, Option, sym, refl, ap, ◌∙◌, subst, ⊎_elim, mod-lt, arith, length-set, get_or-set_other, get_or-set_same}
 use mathlib.Core.Path.{fun_ext}
 use Rattle.std.proofs.lemmas.Bool.{both_ways, false≢true, cond-true, cond-false, cases_Bool, cases_eq, cases_order, or_from, or_left, or_right, lt-ltb, le-ltb}
 use Rattle.keyed.specs.declared.slot.Slot.{Slot}
@@ -8,7 +8,7 @@ use Rattle.keys.specs.Keys.{Lawful}
 use Rattle.keyed.proofs.Makes.{value_none}
 use Rattle.keyed.specs.Meaning.{Names, nothing, put}
 use Rattle.keyed.specs.Slots.{holds_key, is_free, value_in, value_at, gap, start, Passed, Probed, Reached, Apart, Probing, keys_in, table_names, room_in}
-use Rattle.keyed.proofs.Ring.{gap_same, gap_below}
+use Rattle.keyed.proofs.Ring.{gap_same}
 
 drop-other : {A : Type 0} (b c : Bool) (x y z : A) → (b ≡ false → c ≡ false) → cond b x z ≡ cond b x (cond c y z)
 drop-other true c x y z h = refl

@@ -1,6 +1,5 @@
 -- What a table in lent slots means. Assumes nothing.
 use Rattle.std.specs.Prelude.{ℕ, Bool, List, length, take, drop}
-use Rattle.keyed.specs.declared.slot.Slot.{Slot}
 use Rattle.keyed.specs.declared.table.SlotTable.{SlotTable}
 use Rattle.keyed.specs.Meaning.{Names}
 use Rattle.keyed.specs.Slots.{table_names, room_in, Probing}

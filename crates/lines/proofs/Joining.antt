@@ -1,9 +1,9 @@
 -- Physical lines joined to lines, as a loop goes over them. Assumes nothing.
-use Rattle.std.proofs.Common.{◌≡◌, ℕ, ◌+◌, ◌-◌, ◌<◌, ◌≤◌, Bool, true, false, cond, not, ◌||◌, ◌⊎◌, List, [], ◌∷◌, ◌++◌, length, get_or, take, drop, sym, refl, ap, ◌∙◌, inl, inr, ⊎_elim, sub-one, arith, take-add}
+use Rattle.std.proofs.Common.{◌≡◌, ℕ, ◌+◌, ◌-◌, ◌<◌, ◌≤◌, Bool, true, false, cond, ◌||◌, ◌⊎◌, List, [], ◌∷◌, ◌++◌, length, get_or, take, drop, sym, refl, ap, ◌∙◌, inl, inr, ⊎_elim, sub-one, arith, take-add}
 use Rattle.std.proofs.lemmas.List.{append_assoc, take_rest, drop-drop, length-drop, length-append, take_more, get_or-drop}
 use Rattle.std.proofs.lemmas.Bool.{or_from, or_parts, true≢false}
 use Rattle.lines.specs.declared.LineMode.TheVariants.{Joined}
-use Rattle.lines.specs.Lines.{line_len, front, blank, begins, ends, opens, ends_in, trimmed, onto, lines_of}
+use Rattle.lines.specs.Lines.{line_len, front, blank, begins, opens, ends_in, trimmed, onto, lines_of}
 use Rattle.lines.proofs.Cut.{ended-cut, ended-none, piece_cut, up_next-front, lf_at}
 
 -- the first physical line, at what it leaves: n is what `line_feed` answered

@@ -1,6 +1,6 @@
 -- The laws of the lines. Assumes nothing.
-use Rattle.std.proofs.Common.{◌≡◌, ℕ, suc, ◌≤◌, Bool, true, false, cond, not, ◌||◌, ◌⊎◌, List, [], ◌∷◌, ◌++◌, length, sym, refl, ap, ◌∙◌, subst, inl, inr, ⊎_elim, arith}
-use Rattle.std.specs.List.{AllByRecursion as All}
+use Rattle.std.proofs.Common.{◌≡◌, ℕ, suc, ◌≤◌, Bool, true, false, cond, ◌||◌, ◌⊎◌, List, [], ◌∷◌, ◌++◌, length, sym, refl, ap, ◌∙◌, subst, inl, inr, ⊎_elim, arith}
+use Rattle.std.specs.List.{AllByRecursion}
 use Rattle.std.proofs.lemmas.List.{append_assoc, append-nil, length-append}
 use Rattle.std.proofs.ByRecursion.{All-append}
 use Rattle.std.proofs.lemmas.Bool.{eqb-true, eq-eqb, or_parts, or_right, true≢false}
@@ -26,14 +26,14 @@ all_bytes (b ∷ bs) =
     ] in
     at (is_lf b) refl
 
-longer-plain : (b : ℕ) → is_lf b ≡ false → (ps : List (List ℕ)) → All Plain ps → All Plain (longer b ps)
+longer-plain : (b : ℕ) → is_lf b ≡ false → (ps : List (List ℕ)) → AllByRecursion Plain ps → AllByRecursion Plain (longer b ps)
 longer-plain b e [] h = tt
 longer-plain b e (p ∷ ps) h = ((e, h.0), h.1)
 
-pub ended-plain : (bs : List ℕ) → All Plain (ended bs)
+pub ended-plain : (bs : List ℕ) → AllByRecursion Plain (ended bs)
 ended-plain [] = tt
 ended-plain (b ∷ bs) =
-    let P : Bool → Type 0 = λ t. is_lf b ≡ t → All Plain (cond t ([] ∷ ended bs) (longer b (ended bs))) in
+    let P : Bool → Type 0 = λ t. is_lf b ≡ t → AllByRecursion Plain (cond t ([] ∷ ended bs) (longer b (ended bs))) in
     let at : (t : Bool) → P t = λ t. elim t as P [
       | true ↦ λ e. (tt, ended-plain bs)
       | false ↦ λ e. longer-plain b e (ended bs) (ended-plain bs)
@@ -66,11 +66,11 @@ each_written bs =
     ∙ ap (λ x. x ++ cond (held (piece bs)) (10 ∷ []) []) (all_bytes bs)
     ∙ ap (λ t. bs ++ cond t (10 ∷ []) []) (piece-held bs)
 
-last_plain : (f : List ℕ) → Plain f → All Plain (cond (held f) (f ∷ []) [])
+last_plain : (f : List ℕ) → Plain f → AllByRecursion Plain (cond (held f) (f ∷ []) [])
 last_plain [] h = tt
 last_plain (c ∷ cs) h = (h, tt)
 
-each_plain : (bs : List ℕ) → All Plain (lines_of EachLine bs)
+each_plain : (bs : List ℕ) → AllByRecursion Plain (lines_of EachLine bs)
 each_plain bs = All-append Plain (ended bs) (cond (held (piece bs)) (piece bs ∷ []) []) (ended-plain bs) (last_plain (piece bs) (piece-plain bs))
 
 -- a physical line at the front of bytes
@@ -82,7 +82,7 @@ plain_all : (f : List ℕ) → Plain f → front f ≡ f
 plain_all [] h = refl
 plain_all (b ∷ f) h = front-more b f h.0 ∙ ap (λ x. b ∷ x) (plain_all f h.1)
 
-next_front : (ps : List (List ℕ)) (f : List ℕ) → All Plain ps → Plain f → front (written ps ++ f) ≡ up_next ps f
+next_front : (ps : List (List ℕ)) (f : List ℕ) → AllByRecursion Plain ps → Plain f → front (written ps ++ f) ≡ up_next ps f
 next_front [] f hs h = plain_all f h
 next_front (p ∷ ps) f hs h = ap front (append_assoc p (10 ∷ written ps) f) ∙ plain_front p (written ps ++ f) hs.0
 
@@ -159,7 +159,7 @@ cut_onto p r (line ∷ ls) h f (l, after, one, cut) = (
   cut,
 )
 
-joined_all : (ps : List (List ℕ)) (f : List ℕ) → All Plain ps → Plain f → CutInto (written ps ++ f) (joined_lines ps f)
+joined_all : (ps : List (List ℕ)) (f : List ℕ) → AllByRecursion Plain ps → Plain f → CutInto (written ps ++ f) (joined_lines ps f)
 joined_all [] f hs h = plain_goes_on f [] h
 joined_all (p ∷ ps) f hs h =
     let r = written ps ++ f in

@@ -1,6 +1,6 @@
 -- What the lines of a file are, said of the file's bytes at each LF. Assumes nothing.
 use Rattle.std.specs.Prelude.{◌≡◌, ℕ, ◌≤◌, Bool, true, false, cond, not, ◌&&◌, ◌||◌, List, [], ◌∷◌, ◌++◌, length}
-use Rattle.std.specs.List.{AllByRecursion as All}
+use Rattle.std.specs.List.{AllByRecursion}
 use Rattle.lines.specs.declared.LineMode.{LineMode}
 use Rattle.lines.specs.declared.LineMode.TheVariants.{Joined, EachLine}
 use Rattle.lines.specs.Lines.{is_lf, held, piece, blank, opens, ends_in, trimmed, lines_of, cut_off}
@@ -16,7 +16,7 @@ written (l ∷ ls) = l ++ 10 ∷ written ls
 
 -- no LF in it
 abbrev pub Plain : List ℕ → Type 0
-Plain bs = All (λ b. is_lf b ≡ false) bs
+Plain bs = AllByRecursion (λ b. is_lf b ≡ false) bs
 
 -- an LF with xs before it and ys after it ends a line: the physical line before it is blank, or the one after it is blank or begins with `[`
 abbrev pub ends_here : List ℕ → List ℕ → Bool
@@ -41,7 +41,7 @@ CutInto bs (line ∷ ls) = (l : List ℕ) × (after : List ℕ) × OneLine bs li
 pub record LinesStand : Type 0 where
   -- the lines of `EachLine` are the bytes, but for an LF that may be missing at the end; and none holds an LF
   pub each_written : (bs : List ℕ) → written (lines_of EachLine bs) ≡ bs ++ cond (unended bs) (10 ∷ []) []
-  pub each_plain : (bs : List ℕ) → All Plain (lines_of EachLine bs)
+  pub each_plain : (bs : List ℕ) → AllByRecursion Plain (lines_of EachLine bs)
   -- the lines of `Joined`, LF by LF
   pub joined : (bs : List ℕ) → CutInto bs (lines_of Joined bs)
   -- what is cut off is told by the last byte

@@ -1,19 +1,19 @@
 -- The pieces of a joined text between `!` signs. Assumes nothing.
-use Rattle.std.proofs.Common.{◌≡◌, ℕ, zero, suc, ◌+◌, ◌-◌, ◌*◌, ◌<◌, ◌≤◌, Bool, true, false, cond, not, ◌&&◌, eqb, ltb, leb, List, [], ◌∷◌, ◌++◌, map, length, take, drop, is_ok, Ok, Err, Result, sym, refl, ap, ◌∙◌, subst, ⊎_elim, append_assoc, append-nil, suc-add, arith, length-append}
+use Rattle.std.proofs.Common.{◌≡◌, ℕ, suc, ◌+◌, ◌-◌, ◌*◌, ◌<◌, ◌≤◌, Bool, true, false, cond, not, ◌&&◌, eqb, ltb, leb, List, [], ◌∷◌, ◌++◌, length, take, drop, Ok, Err, Result, sym, refl, ap, ◌∙◌, subst, ⊎_elim, append_assoc, append-nil, suc-add, arith, length-append}
 use lib.ListN.{length-map}
-use Rattle.std.specs.List.{prefix_len, AllByRecursion as All}
-use Rattle.std.proofs.lemmas.Bool.{cond-true, cond-false, cases_Bool, eqb-true, eqb-false, eq-eqb, ne_eqb, lt-leb, lt-ltb, cases_eq}
+use Rattle.std.specs.List.{prefix_len, AllByRecursion}
+use Rattle.std.proofs.lemmas.Bool.{cond-true, cond-false, cases_Bool, eqb-true, ne_eqb, lt-leb, lt-ltb, cases_eq}
 use Rattle.std.proofs.lemmas.List.{take_all}
 use Rattle.ids.specs.declared.number.NumberFault.{NumberFault}
 use Rattle.ids.specs.declared.number.NumberFault.TheVariants.{Empty, NotDigit, TooLarge}
 use Rattle.ids.specs.Numbers.{digit, worth_from, sign, unsigned, numeral, number_up_to}
 use Rattle.words.specs.declared.joined.Bars.{Bars}
 use Rattle.words.specs.declared.joined.Bars.TheVariants.{Bare, Front, Both}
-use Rattle.words.specs.Words.{separates, split_by, longer}
+use Rattle.words.specs.Words.{split_by, longer}
 use Rattle.words.specs.Joined.{as_space, spaces, joined_text, front_bars}
 use Rattle.words.proofs.Bytes.{space_same}
 use Rattle.words.proofs.Cut.{before}
-use Rattle.names.specs.QuantKinds.{bang, QuantName, by_name, by_number, if_number, of_pieces, quant_kind}
+use Rattle.names.specs.QuantKinds.{bang, by_name, if_number, of_pieces, quant_kind}
 
 space_bang : (b : ℕ) → bang (as_space b) ≡ bang b
 space_bang = space_same bang (λ b h. ne_eqb b 33 (λ e. absurd (omega arith)))
@@ -63,7 +63,7 @@ number-spaces l s = ap (λ k. numeral l k (unsigned (spaces s))) (sign-spaces s)
 
 -- no `!` among the bytes
 abbrev pub Free : List ℕ → Type 0
-Free s = All (λ b. bang b ≡ false) s
+Free s = AllByRecursion (λ b. bang b ≡ false) s
 
 free_both : (x y : List ℕ) → Free x → Free y → Free (x ++ y)
 free_both [] y h k = k

@@ -1,12 +1,11 @@
 -- The words of a quantifier's name, and its text. Assumes nothing.
-use Rattle.std.proofs.Common.{◌≡◌, ℕ, zero, suc, ◌+◌, ◌-◌, ◌<◌, ◌≤◌, Bool, true, false, cond, not, ◌&&◌, ltb, leb, List, [], ◌∷◌, length, take, drop, is_ok, Some, None, Option, sym, refl, ap, ◌∙◌, ⊎_elim, arith}
+use Rattle.std.proofs.Common.{◌≡◌, ℕ, zero, suc, ◌+◌, ◌<◌, ◌≤◌, Bool, true, false, cond, not, ◌&&◌, ltb, leb, List, [], ◌∷◌, length, take, drop, is_ok, Some, None, Option, sym, refl, ap, ◌∙◌, ⊎_elim, arith}
 use lib.Seq.{drop-nil}
 use Rattle.std.specs.Option.{option_map}
 use Rattle.std.proofs.lemmas.Bool.{cond-true, cond-false, cases_Bool, lt-ltb, le-leb, and_from}
 use Rattle.ids.specs.Numbers.{small}
-use Rattle.words.specs.declared.joined.Bars.{Bars}
 use Rattle.words.specs.declared.joined.Bars.TheVariants.{Bare, Both}
-use Rattle.words.specs.Words.{words_of, front_of, rest_of, first_of}
+use Rattle.words.specs.Words.{words_of, front_of, rest_of}
 use Rattle.words.specs.Joined.{unwords, joined_text}
 use Rattle.words.proofs.Bytes.{spaces-words}
 use Rattle.names.specs.AppNames.{barred}

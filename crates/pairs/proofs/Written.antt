@@ -2,7 +2,7 @@
 use Rattle.std.proofs.Common.{◌≡◌, ℕ, ◌+◌, ◌<◌, Bool, true, false, cond, ◌&&◌, eqb, List, [], ◌∷◌, ◌++◌, length, drop, is_some, Some, None, Ok, Err, Option, Result, sym, refl, ap, ◌∙◌, append_assoc, arith}
 use Rattle.std.specs.Option.{option_map, option_zip, ok_or}
 use Rattle.std.specs.Result as results
-use Rattle.std.specs.List.{AllByRecursion as All}
+use Rattle.std.specs.List.{AllByRecursion}
 use Rattle.std.specs.Str.{bytes_eq}
 use Rattle.std.proofs.lemmas.Bool.{cond-true, cond-false, and_right}
 use Rattle.words.specs.Words.{separates, split_by, longer, words_of}
@@ -125,7 +125,7 @@ words_behind OneWord a b ws = refl
 words_behind TwoWords a b ws = refl
 words_behind Apart a b ws = refl
 
-entries_back : (g : Form) (n : NameForm) (ps : List (List ℕ × List ℕ)) (from : ℕ) → All (Entry g n) ps → entries_read g n from 0 (list_words g n ps) ≡ Ok ps
+entries_back : (g : Form) (n : NameForm) (ps : List (List ℕ × List ℕ)) (from : ℕ) → AllByRecursion (Entry g n) ps → entries_read g n from 0 (list_words g n ps) ≡ Ok ps
 entries_back g n [] from h = refl
 entries_back g n (p ∷ ps) from h =
     let a = raw_first n p in

@@ -1,6 +1,6 @@
 -- What is written as pairs is read back. Assumes nothing.
 use Rattle.std.specs.Prelude.{◌≡◌, ℕ, Bool, false, ◌&&◌, List, [], ◌∷◌, ◌++◌, Ok, Option}
-use Rattle.std.specs.List.{AllByRecursion as All}
+use Rattle.std.specs.List.{AllByRecursion}
 use Rattle.words.specs.Words.{separates, words_of}
 use Rattle.pairs.specs.declared.types.Form.{Form}
 use Rattle.pairs.specs.declared.types.Form.TheVariants.{OneWord, TwoWords, Apart}
@@ -19,7 +19,7 @@ pair_text Apart a b = 40 ∷ (a ++ 32 ∷ 59 ∷ 32 ∷ (b ++ 41 ∷ []))
 
 -- no byte of a text passes a test
 abbrev pub Lacks : (ℕ → Bool) → List ℕ → Type 0
-Lacks p t = All (λ b. p b ≡ false) t
+Lacks p t = AllByRecursion (λ b. p b ≡ false) t
 
 -- in one word neither text has a `;`; in two words and apart the first text does not end with `)`
 abbrev pub FitsForm : Form → List ℕ → List ℕ → Type 0
@@ -67,4 +67,4 @@ list_words g n (p ∷ ps) = words_of (pair_text g (raw_first n p) (raw_second n 
 
 -- a list of at least one entry, written in one form, is read back: its kind, and every entry in its place
 pub record ListsBack : Type 0 where
-  pub list : (g : Form) (n : NameForm) (p : List ℕ × List ℕ) (ps : List (List ℕ × List ℕ)) (from : ℕ) → All (Entry g n) (p ∷ ps) → names_read from (list_words g n (p ∷ ps)) ≡ Ok (record { sort = n; entries = p ∷ ps })
+  pub list : (g : Form) (n : NameForm) (p : List ℕ × List ℕ) (ps : List (List ℕ × List ℕ)) (from : ℕ) → AllByRecursion (Entry g n) (p ∷ ps) → names_read from (list_words g n (p ∷ ps)) ≡ Ok (record { sort = n; entries = p ∷ ps })

@@ -1,10 +1,10 @@
 -- Identifiers compared by their texts. Assumes nothing.
-use Rattle.std.proofs.Common.{◌≡◌, ℕ, ◌<◌, Bool, true, false, cond, List, [], ◌∷◌, map, length, Ordering, Less, Equal, Greater, sym, refl, ap, ◌∙◌}
+use Rattle.std.proofs.Common.{◌≡◌, ℕ, true, false, List, [], ◌∷◌, map, length, Ordering, Less, Equal, Greater, sym, refl, ap, ◌∙◌}
 use Rattle.std.specs.Ordering.{is_ne, ordering_then}
 use Rattle.std.proofs.lemmas.Bool.{both_ways, and_parts, cond-true, cond-false}
-use Rattle.version.specs.Grammar.{digit, every, Identifier, numeric, alphanumeric}
+use Rattle.version.specs.Grammar.{digit, every, numeric, alphanumeric}
 use Rattle.version.specs.Precedence.{by_value, bytes_order, by_identifier, by_identifiers, by_pre_release}
-use Rattle.version.specs.Reader.{value_on, numeral, released, identifier_of}
+use Rattle.version.specs.Reader.{value_on, released, identifier_of}
 use Rattle.version.proofs.Identifiers.{released-digits}
 use Rattle.version.proofs.Numerals.{by_numerals}
 

@@ -1,7 +1,7 @@
 -- Three numbers are read just where they are written. Assumes nothing.
-use Rattle.std.proofs.Common.{◌≡◌, ℕ, ◌<◌, Bool, true, false, cond, not, ◌&&◌, eqb, ltb, List, [], ◌∷◌, ◌++◌, Some, None, Option, unwrap_or, sym, refl, ap, ◌∙◌, subst, ⊎_elim, arith}
+use Rattle.std.proofs.Common.{◌≡◌, ℕ, ◌<◌, true, not, ◌&&◌, eqb, ltb, List, ◌∷◌, ◌++◌, Some, None, Option, unwrap_or, sym, refl, ap, ◌∙◌, subst, ⊎_elim, arith}
 use Rattle.std.proofs.lemmas.Bool.{and_parts, and_from, ltb-true, ne_eqb, cond-true, cond-false, cases_Bool}
-use Rattle.version.specs.Grammar.{digit, every, decimal, limit}
+use Rattle.version.specs.Grammar.{digit, decimal, limit}
 use Rattle.version.specs.Reader.{then, cut_at, value_on, numeral, number_of, core_of}
 use Rattle.version.proofs.Values.{number_read}
 use Rattle.version.proofs.Numerals.{decimal-numeral, decimal-value, decimal-of}

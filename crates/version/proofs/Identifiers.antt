@@ -1,6 +1,6 @@
 -- Identifiers and their texts. Assumes nothing.
-use Rattle.std.proofs.Common.{◌≡◌, ℕ, ◌<◌, ◌≤◌, Bool, true, false, cond, not, ◌&&◌, ◌||◌, eqb, ltb, leb, ◌⊎◌, List, [], ◌∷◌, ◌++◌, map, length, sym, refl, ap, ◌∙◌, inl, inr, ⊎_elim, arith}
-use Rattle.std.proofs.lemmas.Bool.{both_ways, and_parts, and_from, or_cases, or_left, or_right, not-true, not_from_true, leb-true, eqb-true, ne_eqb, cond-true, cond-false, cases_Bool}
+use Rattle.std.proofs.Common.{◌≡◌, ℕ, ◌<◌, ◌≤◌, Bool, true, false, not, ◌&&◌, ◌||◌, eqb, ltb, leb, ◌⊎◌, List, [], ◌∷◌, ◌++◌, map, length, refl, ap, ◌∙◌, inl, inr, ⊎_elim, arith}
+use Rattle.std.proofs.lemmas.Bool.{both_ways, and_parts, and_from, or_cases, or_left, or_right, not-true, leb-true, eqb-true, ne_eqb, cond-true, cond-false, cases_Bool}
 use Rattle.version.specs.Grammar.{digit, letter, character, every, decimal, Identifier, numeric, alphanumeric, spelled, wordy, proper, tagged, dotted}
 use Rattle.version.specs.Reader.{value_on, numeral, released, identifier_of}
 use Rattle.version.proofs.Values.{digit-within, numeral-digits}

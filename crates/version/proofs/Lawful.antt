@@ -1,5 +1,5 @@
 -- Precedence is a total order up to build metadata. Assumes nothing.
-use Rattle.std.proofs.Common.{◌≡◌, ℕ, ◌<◌, cond, ◌⊎◌, List, [], ◌∷◌, Ordering, Less, Equal, Greater, sym, refl, ap, ◌∙◌, subst, inl, inr, ⊎_elim, arith}
+use Rattle.std.proofs.Common.{◌≡◌, ℕ, ◌<◌, ◌⊎◌, List, [], ◌∷◌, Ordering, Less, Equal, Greater, sym, refl, ap, ◌∙◌, subst, inl, inr, ⊎_elim, arith}
 use Rattle.std.specs.Ordering.{ordering_index, ordering_reverse, ordering_then}
 use Rattle.std.proofs.lemmas.Bool.{cases_order}
 use Rattle.version.specs.Grammar.{Identifier, numeric, alphanumeric, Semver}

@@ -1,11 +1,11 @@
 -- Digits without leading zeros: more of them write a larger number, and as many are compared byte by byte. So two of them that
 -- write one number are the same text, which is what `decimal` writes. Assumes nothing.
-use Rattle.std.proofs.Common.{◌≡◌, ℕ, zero, suc, ◌+◌, ◌-◌, ◌*◌, ◌^◌, ◌<◌, ◌≤◌, Bool, true, false, cond, not, ◌&&◌, ◌||◌, eqb, leb, List, [], ◌∷◌, map, length, get_or, Ordering, Less, Equal, Greater, sym, refl, ap, ◌∙◌, ⊎_elim, mul-le-mul_right, mul_assoc, arith}
+use Rattle.std.proofs.Common.{◌≡◌, ℕ, ◌+◌, ◌-◌, ◌*◌, ◌^◌, ◌<◌, ◌≤◌, true, not, ◌||◌, eqb, leb, List, [], ◌∷◌, map, length, get_or, sym, refl, ap, ◌∙◌, ⊎_elim, mul-le-mul_right, mul_assoc, arith}
 use native.Mathlib.Nat.{pow-zero, pow-succ', pow-le-pow_right}
 use Rattle.std.specs.Ordering.{ordering_then}
 use Rattle.std.specs.Int.Digits.{digits_of, number_from_digits_after, AllBelowBase}
 use Rattle.std.proofs.lemmas.Int.Digits.{all_below_base_digits_of, first_digits_of, number_digits_of}
-use Rattle.std.proofs.lemmas.Bool.{and_parts, and_from, or_cases, or_left, not-true, eqb-true, eqb-false, eq-eqb, ne_eqb, le-leb, cond-true, cond-false, cases_order, cases_eq, cases_lt}
+use Rattle.std.proofs.lemmas.Bool.{and_parts, and_from, or_cases, or_left, not-true, eqb-true, eqb-false, eq-eqb, ne_eqb, le-leb, cond-true, cond-false, cases_order, cases_eq}
 use Rattle.version.specs.Grammar.{digit, every, decimal}
 use Rattle.version.specs.Precedence.{by_value, bytes_order}
 use Rattle.version.specs.Reader.{value_on, numeral}

@@ -1,7 +1,7 @@
 -- What is read of a version's parts. Assumes nothing.
-use Rattle.std.proofs.Common.{◌≡◌, ℕ, Bool, true, false, cond, ◌&&◌, List, [], ◌∷◌, map, Some, None, Option, sym, refl, ap, ◌∙◌}
+use Rattle.std.proofs.Common.{◌≡◌, ℕ, true, false, ◌&&◌, List, map, Some, None, Option, sym, ap, ◌∙◌}
 use Rattle.std.proofs.lemmas.Bool.{and_from, and_left, and_right, cond-true, cond-false}
-use Rattle.version.specs.Grammar.{Semver, every, tagged}
+use Rattle.version.specs.Grammar.{every, tagged}
 use Rattle.version.specs.Reader.{cut_at, fields_of, core_of, released, identifier_of, assembled, parsed}
 
 pub parts_told : (text rest core : List ℕ) (before after : Option (List ℕ)) (n : Option (ℕ × ℕ × ℕ)) → rest ≡ (cut_at 43 text).0 → after ≡ (cut_at 43 text).1 → core ≡ (cut_at 45 rest).0 → before ≡ (cut_at 45 rest).1 → n ≡ core_of core → parsed text ≡ assembled n before after

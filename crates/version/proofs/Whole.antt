@@ -1,9 +1,9 @@
 -- `parsed` tells a version just where the text is one. Assumes nothing.
-use Rattle.std.proofs.Common.{◌≡◌, ℕ, ◌<◌, Bool, true, false, cond, not, ◌&&◌, eqb, List, [], ◌∷◌, ◌++◌, map, is_some, Some, None, Option, unwrap_or, sym, refl, ap, ◌∙◌, subst, ⊎_elim, arith}
+use Rattle.std.proofs.Common.{◌≡◌, ℕ, ◌<◌, Bool, true, cond, not, ◌&&◌, eqb, List, [], ◌∷◌, ◌++◌, map, is_some, Some, None, Option, unwrap_or, sym, refl, ap, ◌∙◌, subst, ⊎_elim, arith}
 use Rattle.std.specs.Option.{option_map}
 use Rattle.std.proofs.lemmas.List.{append_assoc}
 use Rattle.std.proofs.lemmas.Bool.{and_parts, cond-true, cond-false, cases_Bool}
-use Rattle.version.specs.Grammar.{every, character, decimal, limit, Identifier, Semver, spelled, proper, tagged, dotted, marked, written, Denotes}
+use Rattle.version.specs.Grammar.{every, character, decimal, limit, Semver, spelled, proper, tagged, marked, written, Denotes}
 use Rattle.version.specs.Precedence.{by_precedence, at_least, four_nine}
 use Rattle.version.specs.Reader.{then, cut_at, fields_of, core_of, released, identifier_of, assembled, parsed}
 use Rattle.version.specs.Law.{newness, compared, Tells, TellsNewness, TellsPrecedence}
@@ -105,6 +105,10 @@ tells_newness text = record {
   sound = λ h. let p = mapped_some (λ v. at_least v four_nine) (parsed text) h in (p.0, is-denoted text p.0 p.1);
   complete = λ v d. ap (option_map (λ w. at_least w four_nine)) (told text v d);
 }
+
+-- the same of what the code tells
+pub tells_newness_same : (text : List ℕ) (o : Option Bool) → o ≡ newness text → TellsNewness text o
+tells_newness_same text o e = subst (TellsNewness text) (sym e) (tells_newness text)
 
 compared-some : (o p : Option Semver) → is_some (then o (λ v. option_map (by_precedence v) p)) ≡ true → (v : Semver) × (w : Semver) × (o ≡ Some v) × (p ≡ Some w)
 compared-some None p h = absurd (let z : ◌≡◌ {A = ℕ} 0 1 = cc in omega arith)

@@ -1,7 +1,6 @@
 -- The standard's worked examples of precedence, and a few of the grammar and the limit. Assumes nothing.
-use Rattle.std.specs.Prelude.{◌≡◌, ℕ, ◌-◌, ◌^◌, Bool, true, false, List, [], ◌∷◌, ◌++◌, Some, None, codes, Option}
-use Rattle.std.specs.declared.cmp.Ordering.TheVariants.{Less, Equal, Greater}
-use Rattle.std.specs.declared.cmp.Ordering.{Ordering}
+use Rattle.std.specs.Prelude.{◌≡◌, ℕ, ◌-◌, ◌^◌, true, false, [], ◌∷◌, Some, None, codes}
+use Rattle.std.specs.declared.cmp.Ordering.TheVariants.{Less, Equal}
 use Rattle.version.specs.Grammar.{Semver, numeric, alphanumeric, written}
 use Rattle.version.specs.Law.{newness, compared}
 use Rattle.version.specs.Reader.{parsed}

@@ -8,7 +8,7 @@
 --                  hyphens, and zeros may lead (clause 10)
 --
 -- So a version is a value of `Semver`, and a text is a version if it is what `written` makes of such a value.
-use Rattle.std.specs.Prelude.{◌≡◌, ℕ, ◌+◌, ◌^◌, ◌<◌, Bool, true, false, cond, not, ◌&&◌, ◌||◌, List, [], ◌∷◌, ◌++◌, map, length, ◌==◌, nat_le, nat_lt}
+use Rattle.std.specs.Prelude.{◌≡◌, ℕ, ◌+◌, ◌^◌, ◌<◌, Bool, true, cond, not, ◌&&◌, ◌||◌, List, [], ◌∷◌, ◌++◌, map, length, ◌==◌, nat_le, nat_lt}
 use Rattle.std.specs.Int.Digits.{digits_of}
 
 -- the bytes `0` to `9`

@@ -1,6 +1,6 @@
 -- The laws of words and kinds. Assumes nothing.
 use Rattle.std.proofs.Common.{◌≡◌, ℕ, ◌<◌, false, ◌||◌, List, [], ◌∷◌, length, Some, sym, refl, ap, ◌∙◌, subst, ⊎_elim, arith}
-use Rattle.std.specs.List.{AllByRecursion as All}
+use Rattle.std.specs.List.{AllByRecursion}
 use Rattle.std.specs.Str.{bytes_eq}
 use Rattle.std.proofs.lemmas.Slice.Eq.{bytes_eq-Decides}
 use Rattle.std.proofs.lemmas.Bool.{cond-true, cond-false, cases_Bool}
@@ -13,15 +13,15 @@ use Rattle.words.proofs.Cut.{words_count}
 use Rattle.words.proofs.Spans.{words_sep, words_in_lem}
 use Rattle.words.proofs.Bytes.{spaces-words}
 
-all_longer : (b : ℕ) (ws : List (List ℕ)) → separates b ≡ false → All (λ w. broken w ≡ false) ws → 0 < length ws → All (λ w. broken w ≡ false) (longer b ws)
+all_longer : (b : ℕ) (ws : List (List ℕ)) → separates b ≡ false → AllByRecursion (λ w. broken w ≡ false) ws → 0 < length ws → AllByRecursion (λ w. broken w ≡ false) (longer b ws)
 all_longer b [] h a p = absurd (omega arith)
 all_longer b (w ∷ ws) h a p = (ap (λ t. t || broken w) h ∙ a.0, a.1)
 
-all_whole : (s : List ℕ) → All (λ w. broken w ≡ false) (words_of s)
+all_whole : (s : List ℕ) → AllByRecursion (λ w. broken w ≡ false) (words_of s)
 all_whole [] = (refl, tt)
 all_whole (b ∷ bs) = ⊎_elim
-    (λ h. subst (All (λ w. broken w ≡ false)) (sym (words_sep b bs h)) (refl, all_whole bs))
-    (λ h. subst (All (λ w. broken w ≡ false)) (sym (words_in_lem b bs h)) (all_longer b (words_of bs) h (all_whole bs) (words_count bs).0))
+    (λ h. subst (AllByRecursion (λ w. broken w ≡ false)) (sym (words_sep b bs h)) (refl, all_whole bs))
+    (λ h. subst (AllByRecursion (λ w. broken w ≡ false)) (sym (words_in_lem b bs h)) (all_longer b (words_of bs) h (all_whole bs) (words_count bs).0))
     (cases_Bool (separates b))
 
 pub words_apart : WordsApart

@@ -1,7 +1,7 @@
 -- Words joined by single spaces. A run of words of one line needs no memory of its own: it is a span of the line in which each
 -- separator counts as one space, so the joined text is as long as the span. Assumes nothing.
 use Rattle.std.specs.Prelude.{◌≡◌, ℕ, false, cond, List, [], ◌∷◌, ◌++◌, map}
-use Rattle.std.specs.List.{AllByRecursion as All}
+use Rattle.std.specs.List.{AllByRecursion}
 use Rattle.words.specs.Words.{separates, words_of, broken}
 use Rattle.words.specs.declared.joined.Bars.{Bars}
 use Rattle.words.specs.declared.joined.Bars.TheVariants.{Bare, Front, Both}
@@ -34,5 +34,5 @@ front_bars Both = Front
 -- what the words of a line are, for every line: no word holds a separator, and the words joined are the line with a space for each
 -- separator
 pub record WordsApart : Type 0 where
-  pub whole : (s : List ℕ) → All (λ w. broken w ≡ false) (words_of s)
+  pub whole : (s : List ℕ) → AllByRecursion (λ w. broken w ≡ false) (words_of s)
   pub back : (s : List ℕ) → unwords (words_of s) ≡ spaces s

@@ -1,4 +1,4 @@
-use Rattle.std.proofs.Common.{◌≡◌, sym, ap, ◌∙◌, arith}
+use Rattle.std.proofs.Common.{sym, ap, ◌∙◌}
 use Rattle.std.proofs.lemmas.List.{take_rest}
 use Rattle.bitvec.specs.declared.Base.TheVariants.{Binary, Hexadecimal}
 use Rattle.bitvec.specs.BitVecs.{of_digits}

@@ -1,6 +1,5 @@
 use Rattle.std.proofs.Common.{◌≡◌, ◌+◌, length, Ok, sym, ap, ◌∙◌, subst, arith}
-use Rattle.std.proofs.lemmas.Bool.{eqb-true, eqb-false}
-use Rattle.bitvec.specs.declared.BitVec.{BitVec}
+use Rattle.std.proofs.lemmas.Bool.{eqb-false}
 use Rattle.bitvec.proofs.Digits.{Reading, reading_more, reading_over, digits_bad, digits_ok, digits_over}
 use Rattle.bitvec.proofs.read_digits.Goals as goal
 use Rattle.bitvec.proofs.read_digits.Goals.{then-value-most, else-value-most}

@@ -1,4 +1,4 @@
-use Rattle.std.proofs.Common.{◌≡◌, ℕ, ◌/◌, ◌^◌, ◌<◌, true, nat_abs, sym, ap, ◌∙◌, subst, arith}
+use Rattle.std.proofs.Common.{◌≡◌, ◌/◌, ◌<◌, true, nat_abs, sym, ap, ◌∙◌, subst, arith}
 use Rattle.fraction.specs.Bounds.{fits}
 use Rattle.fraction.specs.Divisors.{gcd}
 use Rattle.fraction.proofs.Gcd.{gcd-pos, den_pos, gcd-over}
@@ -18,4 +18,8 @@ invariant_of-result c =
     let g = c.gcd_of-common.ensures in
     let s : nat_abs c.with_sign.result ≡ n / c.gcd_of-common.result = c.with_sign.ensures.size in
     let few = fits-small (n / c.gcd_of-common.result) (d / c.gcd_of-common.result) (sym c.if-not-within_bounds.ensures) in
-    let size = ap nat_abs (narrow c.with_sign.result (omega arith)) ∙ s in record { positive = subst (λ k. 0 < d / k) (sym g) (den_pos n d c.requires); within = subst (λ k. fits k (d / c.gcd_of-common.result) ≡ true) (sym size) (sym c.if-not-within_bounds.ensures); coprime = ap (λ k. gcd k (d / c.gcd_of-common.result)) size ∙ ap (λ k. gcd (n / k) (d / k)) g ∙ gcd-over n d c.requires }
+    let size = ap nat_abs (narrow c.with_sign.result (omega arith)) ∙ s in record {
+      positive = subst (λ k. 0 < d / k) (sym g) (den_pos n d c.requires);
+      within = subst (λ k. fits k (d / c.gcd_of-common.result) ≡ true) (sym size) (sym c.if-not-within_bounds.ensures);
+      coprime = ap (λ k. gcd k (d / c.gcd_of-common.result)) size ∙ ap (λ k. gcd (n / k) (d / k)) g ∙ gcd-over n d c.requires;
+    }

@@ -1,4 +1,4 @@
-use Rattle.std.proofs.Common.{◌≡◌, ◌^◌, ◌<◌, pos, nat_abs, sym, ◌∙◌, subst, arith}
+use Rattle.std.proofs.Common.{◌^◌, ◌<◌, pos, nat_abs, sym, ◌∙◌, subst}
 use Rattle.fraction.proofs.Sizes.{narrow, product-fits, product-made, product-size}
 use Rattle.fraction.proofs.scaled.Goals as goal
 

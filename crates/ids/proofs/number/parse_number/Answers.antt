@@ -1,6 +1,6 @@
-use Rattle.std.proofs.Common.{◌≡◌, ℕ, drop, sym, ap, ◌∙◌}
+use Rattle.std.proofs.Common.{◌≡◌, drop, ap, ◌∙◌}
 use Rattle.std.proofs.lemmas.List.{take_rest}
-use Rattle.ids.specs.Numbers.{numeral, sign, unsigned}
+use Rattle.ids.specs.Numbers.{numeral, sign}
 use Rattle.ids.proofs.Steps.{unsigned-drop}
 use Rattle.ids.proofs.number.parse_number.Goals as goal
 

@@ -1,4 +1,4 @@
-use Rattle.std.proofs.Common.{◌≡◌, ℕ, ◌<◌, true, length, get_or}
+use Rattle.std.proofs.Common.{◌≡◌, ℕ, ◌<◌, true, get_or}
 use Rattle.keyed.specs.declared.slot.Slot.TheVariants.{Free}
 use Rattle.keyed.specs.Slots.{is_free}
 use Rattle.keyed.proofs.table.clear.Given as goal

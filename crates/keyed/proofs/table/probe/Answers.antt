@@ -1,4 +1,4 @@
-use Rattle.std.proofs.Common.{◌≡◌, ◌+◌, ◌<◌, length, sym, refl, ◌∙◌, subst, arith, rules}
+use Rattle.std.proofs.Common.{◌≡◌, ◌+◌, ◌<◌, length, sym, refl, subst, arith, rules}
 use Rattle.keyed.specs.Slots.{gap, start}
 use Rattle.keyed.proofs.Probe.{ends_at, goes_on, ends-past}
 use Rattle.keyed.proofs.Ring.{gap-next, gap-wrap}

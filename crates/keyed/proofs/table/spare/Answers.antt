@@ -1,4 +1,4 @@
-use Rattle.std.proofs.Common.{◌≡◌, length, sym, ap, ◌∙◌, ⊎_elim}
+use Rattle.std.proofs.Common.{length, sym, ◌∙◌, ⊎_elim}
 use Rattle.std.proofs.lemmas.Bool.{lt-ltb, le-ltb, cases_lt}
 use Rattle.keyed.proofs.Rows.{has_room, full_no_room}
 use Rattle.keyed.proofs.table.spare.Goals as goal

@@ -1,6 +1,6 @@
-use Rattle.std.proofs.Common.{◌≡◌, ℕ, true, cond, length, sym, refl, ap, ◌∙◌, arith}
+use Rattle.std.proofs.Common.{◌≡◌, ℕ, sym, refl, ap, ◌∙◌, arith}
 use Rattle.std.proofs.lemmas.List.{get_or_default}
-use Rattle.keyed.specs.declared.slot.Slot.TheVariants.{Free, Held}
+use Rattle.keyed.specs.declared.slot.Slot.TheVariants.{Free}
 use Rattle.keyed.specs.Slots.{value_in}
 use Rattle.keyed.proofs.Entries.{refused as not_taken, taken}
 use Rattle.keyed.proofs.Rows.{found, has_room, full_no_room, stored, probing_set}

@@ -1,4 +1,4 @@
-use Rattle.std.proofs.Common.{◌≡◌, ◌+◌, [], ◌∷◌, length, sym, ap, ◌∙◌, arith}
+use Rattle.std.proofs.Common.{◌≡◌, ◌+◌, ◌∷◌, length, sym, ap, ◌∙◌, arith}
 use Rattle.words.specs.Words.{ahead}
 use Rattle.names.specs.AppNames.{named}
 use Rattle.names.specs.Writing.{laid_at, tail}

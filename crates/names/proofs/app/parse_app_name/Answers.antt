@@ -1,8 +1,8 @@
-use Rattle.std.proofs.Common.{◌≡◌, ℕ, ◌+◌, ◌≤◌, List, [], ◌∷◌, length, Some, sym, refl, ap, ◌∙◌, arith}
+use Rattle.std.proofs.Common.{◌≡◌, ℕ, ◌+◌, ◌≤◌, List, [], ◌∷◌, length, Some, sym, ap, ◌∙◌, arith}
 use Rattle.words.specs.Words.{ahead}
 use Rattle.words.specs.Joined.{unwords}
 use Rattle.words.specs.Laid.{laid}
-use Rattle.names.specs.AppNames.{NameRead, named, children, name_read, name_long, scratch_after, child_words, or_else, joined_name, barred}
+use Rattle.names.specs.AppNames.{NameRead, named, name_read, name_long, scratch_after, child_words, or_else, joined_name, barred}
 use Rattle.names.specs.Writing.{tail}
 use Rattle.words.proofs.Cut.{from_first, none_first}
 use Rattle.names.proofs.Layers.{no_name, name_found, name_size, whole-laid, tail-long, joined_long}

@@ -1,4 +1,4 @@
-use Rattle.std.proofs.Common.{◌≡◌, ℕ, ◌+◌, not, drop}
+use Rattle.std.proofs.Common.{◌≡◌, ◌+◌, not, drop}
 use Rattle.std.specs.List.{prefix_len}
 use Rattle.names.specs.QuantKinds.{bang}
 use Rattle.names.proofs.kind.bang_at.Given as goal

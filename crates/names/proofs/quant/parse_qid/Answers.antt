@@ -1,4 +1,4 @@
-use Rattle.std.proofs.Common.{◌≡◌, ℕ, ◌+◌, Bool, cond, not, ◌&&◌, ltb, List, ◌∷◌, length, take, drop, Some, None, Ok, sym, refl, ap, ◌∙◌, arith, length-drop}
+use Rattle.std.proofs.Common.{◌≡◌, ℕ, ◌+◌, not, ◌&&◌, ltb, List, length, take, drop, Some, Ok, sym, refl, ap, ◌∙◌, arith, length-drop}
 use Rattle.ids.specs.Numbers.{small}
 use Rattle.words.specs.Words.{ahead, words_of, first_of, rest_of}
 use Rattle.words.specs.Joined.{joined_text}

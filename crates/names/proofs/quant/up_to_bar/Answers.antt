@@ -1,5 +1,4 @@
-use Rattle.std.proofs.Common.{◌≡◌, ◌+◌, [], ◌∷◌, length, is_ok, Some, sym, refl, ap, ◌∙◌, add-zero, arith}
-use Rattle.ids.specs.Numbers.{small}
+use Rattle.std.proofs.Common.{◌≡◌, ◌∷◌, length, sym, refl, ap, ◌∙◌, arith}
 use Rattle.words.specs.Words.{ahead}
 use Rattle.names.specs.QuantNames.{up_to_bar, closes}
 use Rattle.words.proofs.Cut.{from_first, none_first}

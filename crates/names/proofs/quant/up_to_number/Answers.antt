@@ -1,7 +1,7 @@
-use Rattle.std.proofs.Common.{◌≡◌, ◌+◌, [], ◌∷◌, length, is_ok, Some, sym, refl, ap, ◌∙◌, add-zero, arith}
+use Rattle.std.proofs.Common.{◌≡◌, ◌∷◌, length, is_ok, Some, sym, refl, ap, ◌∙◌, add-zero, arith}
 use Rattle.ids.specs.Numbers.{small}
 use Rattle.words.specs.Words.{ahead}
-use Rattle.names.specs.QuantNames.{up_to_number, closes}
+use Rattle.names.specs.QuantNames.{up_to_number}
 use Rattle.words.proofs.Cut.{from_first, none_first}
 use Rattle.names.proofs.Counting.{later, ahead-few, count_stop, count_on}
 use Rattle.names.proofs.quant.up_to_number.Goals as goal

@@ -1,4 +1,4 @@
-use Rattle.std.proofs.Common.{◌≡◌, ◌+◌, ◌-◌, ◌*◌, ◌^◌, ◌≤◌, true, get_or, drop, sym, refl, ap, ◌∙◌, arith}
+use Rattle.std.proofs.Common.{◌≡◌, ◌+◌, ◌-◌, ◌*◌, ◌^◌, ◌≤◌, get_or, drop, sym, refl, ap, ◌∙◌, arith}
 use Rattle.version.specs.Reader.{value_on}
 use Rattle.version.proofs.Values.{digit-within, digits_parts, value_more, value_all, value_grows, numeral-digits, number_read, number-large}
 use Rattle.version.proofs.number.read_number.Goals as goal

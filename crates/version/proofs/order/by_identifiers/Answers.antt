@@ -1,4 +1,4 @@
-use Rattle.std.proofs.Common.{◌≡◌, sym, ap, ◌∙◌}
+use Rattle.std.proofs.Common.{sym, ap, ◌∙◌}
 use Rattle.std.specs.Option.{option_map}
 use Rattle.version.specs.Precedence.{by_identifiers}
 use Rattle.version.specs.Reader.{fields, fields_of, fields_in, cut_at}

@@ -1,4 +1,4 @@
-use Rattle.std.proofs.Common.{◌≡◌, sym, ap, ◌∙◌}
+use Rattle.std.proofs.Common.{sym, ◌∙◌}
 use Rattle.version.specs.Precedence.{by_identifiers, by_pre_release}
 use Rattle.version.specs.Reader.{fields, fields_of, cut_at}
 use Rattle.version.specs.View.{identifiers_in}

@@ -1,4 +1,4 @@
-use Rattle.std.proofs.Common.{◌≡◌, pos, ◌+ℤ◌, ◌*ℤ◌, nat_abs, sym, ap, ◌∙◌, arith, to_z, of_z}
+use Rattle.std.proofs.Common.{◌≡◌, pos, ◌+ℤ◌, ◌*ℤ◌, nat_abs, ap, ◌∙◌, arith, to_z, of_z}
 use mir.Syntax.{w128}
 use Rattle.fraction.specs.Fractions.{reduced}
 use Rattle.fraction.proofs.Sizes.{sum-size, narrow, wide, fits-small}

@@ -1,5 +1,4 @@
-use Rattle.std.proofs.Common.{◌≡◌, List, sym, ap, ◌∙◌, subst}
-use Rattle.keyed.specs.declared.slot.Slot.{Slot}
+use Rattle.std.proofs.Common.{sym, ap, ◌∙◌, subst}
 use Rattle.keyed.specs.Slots.{Probing, room_in}
 use Rattle.keyed.proofs.Parts.{part}
 use Rattle.keyed.proofs.table.SlotTable.has_room.Goals as goal

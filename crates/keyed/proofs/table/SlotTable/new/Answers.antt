@@ -1,4 +1,4 @@
-use Rattle.std.proofs.Common.{◌≡◌, length, sym, refl, ap, ◌∙◌, subst}
+use Rattle.std.proofs.Common.{length, sym, refl, ap, ◌∙◌, subst}
 use Rattle.keyed.specs.Slots.{Probing, table_names}
 use Rattle.keyed.proofs.Parts.{front-back, rest_back, part_size, part}
 use Rattle.keyed.proofs.Rows.{probing_none, fresh}

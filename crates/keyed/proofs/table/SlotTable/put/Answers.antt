@@ -1,5 +1,4 @@
-use Rattle.std.proofs.Common.{◌≡◌, List, length, sym, refl, ap, ◌∙◌, subst}
-use Rattle.keyed.specs.declared.slot.Slot.{Slot}
+use Rattle.std.proofs.Common.{length, sym, refl, ap, ◌∙◌, subst}
 use Rattle.keyed.specs.Refusals.{no_room}
 use Rattle.keyed.specs.Meaning.{Entered}
 use Rattle.keyed.specs.Slots.{Probing, table_names, room_in}
