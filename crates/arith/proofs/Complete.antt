@@ -1,14 +1,13 @@
 -- Every expression that stays within the bounds is read. Assumes nothing.
-use Rattle.std.proofs.Common.{◌≡◌, ℕ, zero, suc, ◌+◌, ◌-◌, ◌*◌, ◌<◌, ◌≤◌, max, Bool, true, false, cond, ◌&&◌, eqb, leb, List, [], ◌∷◌, ◌++◌, length, get_or, Some, None, Ok, Err, Option, Result, sym, refl, ap, ◌∙◌, subst, arith}
+use Rattle.std.proofs.Common.{◌≡◌, ℕ, zero, suc, ◌+◌, ◌-◌, ◌*◌, ◌<◌, ◌≤◌, true, false, eqb, leb, List, [], ◌∷◌, ◌++◌, length, get_or, Some, Ok, sym, refl, ap, ◌∙◌, subst, arith}
 use Rattle.std.proofs.lemmas.List.{append_assoc, length-append}
 use Rattle.std.proofs.lemmas.Bool.{cond-true, cond-false, and_from, le-leb}
 use Rattle.fraction.specs.Ratios.{Ratio, whole, negative}
 use Rattle.fraction.specs.Fractions.{lowest}
 use Rattle.arith.specs.declared.Operator.{Operator}
-use Rattle.arith.specs.declared.Operator.TheVariants.{Sum, Difference, Product, Quotient, Other}
-use Rattle.arith.specs.declared.ValueFault.{ValueFault}
-use Rattle.arith.specs.Values.{Read, Tally, none, digit, digits_after, literal_of, sign_of, cut_at_space, value_at, bracket, arguments, combine, counted, fold_in, at_close, then, worked}
-use Rattle.arith.specs.Expressions.{Figure, Numeral, figure, more, amount_of, spelled, Many, sums, products, symbol, Expr, numeral, many, opposite, less, divided, Args, only, also, written, listed, nesting, nesting_all, join, worth, worth_all, Is, Fits, Stays, StaysAll}
+use Rattle.arith.specs.declared.Operator.TheVariants.{Sum, Difference, Product, Quotient}
+use Rattle.arith.specs.Values.{Read, Tally, none, digit, digits_after, literal_of, sign_of, value_at, bracket, arguments, combine, counted, fold_in, at_close, then, worked}
+use Rattle.arith.specs.Expressions.{Figure, Numeral, figure, more, amount_of, spelled, Many, sums, products, symbol, Expr, numeral, many, opposite, less, divided, Args, only, also, written, listed, nesting, nesting_all, join, worth, worth_all, Is, Stays, StaysAll}
 use Rattle.arith.specs.Laws.{Clear, Ends}
 use Rattle.arith.proofs.Steps.{value_digit}
 use Rattle.arith.proofs.Worths.{join-needs, less_needs, over_needs, opposite_is, is-lowest}

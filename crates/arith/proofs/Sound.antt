@@ -1,5 +1,5 @@
 -- What is read is an expression, and the answer its number. Assumes nothing.
-use Rattle.std.proofs.Common.{◌≡◌, ℕ, zero, suc, ◌+◌, ◌-◌, ◌*◌, ◌<◌, ◌≤◌, max, Bool, true, false, cond, ◌&&◌, eqb, leb, List, [], ◌∷◌, ◌++◌, length, IfOk, Some, None, Ok, Err, Option, Result, sym, refl, ap, ◌∙◌, subst, arith}
+use Rattle.std.proofs.Common.{◌≡◌, ℕ, zero, suc, ◌+◌, ◌-◌, ◌*◌, ◌≤◌, Bool, true, false, cond, eqb, List, [], ◌∷◌, ◌++◌, length, IfOk, Some, None, Ok, Err, Option, Result, sym, refl, ap, ◌∙◌, subst, arith}
 use Rattle.std.proofs.lemmas.List.{append_assoc}
 use Rattle.std.proofs.lemmas.Bool.{cond-true, cond-false, eqb-true, ne_eqb}
 use Rattle.fraction.specs.declared.FractionFault.{FractionFault}
@@ -10,7 +10,7 @@ use Rattle.arith.specs.declared.Operator.TheVariants.{Sum, Difference, Product, 
 use Rattle.arith.specs.declared.ValueFault.{ValueFault}
 use Rattle.arith.specs.declared.ValueFault.TheVariants.{Unreadable, TooDeep}
 use Rattle.arith.specs.Values.{arith_value, most_open, Read, Tally, none, digit, digits_after, literal_of, sign_of, operator_of, onto, cut_at_space, value_at, bracket, arguments, combine, counted, fold_in, at_close, then, worked}
-use Rattle.arith.specs.Expressions.{Figure, Numeral, figure, more, amount_of, spelled, Many, sums, products, symbol, Expr, numeral, many, opposite, less, divided, Args, only, also, written, listed, nesting, nesting_all, join, worth, worth_all, Is, Fits, Stays, StaysAll}
+use Rattle.arith.specs.Expressions.{Figure, Numeral, figure, more, amount_of, spelled, Many, sums, products, symbol, Expr, numeral, many, opposite, less, divided, Args, only, also, written, listed, nesting, nesting_all, join, worth, worth_all, Is, Stays, StaysAll}
 use Rattle.arith.specs.Laws.{Clear, Ends, Denotes}
 use Rattle.arith.proofs.Steps.{digit_low}
 use Rattle.arith.proofs.Worths.{join-gives, less_gives, over_gives, opposite_is, whole-gives, is_one}

@@ -1,14 +1,12 @@
 -- What the arithmetic of fractions says of the numbers that expressions are. Assumes nothing.
-use Rattle.std.proofs.Common.{◌≡◌, ℕ, zero, suc, ◌+◌, ◌*◌, ◌<◌, ◌≤◌, Bool, true, false, cond, eqb, ℤ, pos, negsuc, neg_ℤ, nat_abs, Some, None, Ok, Err, Option, Result, sym, refl, ap, ◌∙◌, subst, mul-pos, arith}
+use Rattle.std.proofs.Common.{◌≡◌, ℕ, zero, suc, ◌*◌, ◌<◌, Bool, true, false, cond, eqb, ℤ, pos, negsuc, neg_ℤ, nat_abs, Some, None, Ok, Err, Option, sym, refl, ap, ◌∙◌, subst, mul-pos, arith}
 use Prim.Native.Nat.{◌∣◌}
 use Rattle.std.specs.Option.{option_map}
-use Rattle.std.proofs.lemmas.Bool.{cond-true, cond-false, eqb-false, ne_eqb}
-use Rattle.fraction.specs.declared.FractionFault.{FractionFault}
+use Rattle.std.proofs.lemmas.Bool.{cond-false, eqb-false, ne_eqb}
 use Rattle.fraction.specs.declared.FractionFault.TheVariants.{ZeroDivisor}
 use Rattle.fraction.specs.Bounds.{fits}
-use Rattle.fraction.specs.Ratios.{Ratio, Same, Reduced, whole, sum, product, negative, difference, quotient}
+use Rattle.fraction.specs.Ratios.{Ratio, Same, whole, negative, difference, quotient}
 use Rattle.fraction.specs.Fractions.{lowest, divide}
-use Rattle.fraction.specs.Laws.{Lowest}
 use Rattle.fraction.proofs.Lowest.{lowest-gives, lowest-only, lowest-move}
 use Rattle.fraction.proofs.Rational.{sum_same, product-same, difference-same, negative-same, quotient-same, nonzero-same}
 use Rattle.arith.specs.Expressions.{Many, sums, products, both, nonzero, join, Is}

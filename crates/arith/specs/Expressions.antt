@@ -1,5 +1,5 @@
 -- Expressions of arithmetic: how each is written, and which rational number it is. Nothing here knows how a text is read. Assumes nothing.
-use Rattle.std.specs.Prelude.{◌≡◌, ℕ, ◌+◌, ◌*◌, ◌<◌, ◌≤◌, max, cond, List, [], ◌∷◌, ◌++◌, Some, None, codes, Option, ◌==◌, unsigned_abs}
+use Rattle.std.specs.Prelude.{ℕ, ◌+◌, ◌*◌, ◌<◌, max, cond, List, [], ◌∷◌, ◌++◌, Some, None, codes, Option, ◌==◌, unsigned_abs}
 use Rattle.std.specs.Option.{option_map}
 use Rattle.fraction.specs.Ratios.{Ratio, whole, sum, product, negative, difference, quotient}
 use Rattle.fraction.specs.Laws.{Lowest}

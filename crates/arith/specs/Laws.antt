@@ -1,7 +1,6 @@
 -- What is read, in arithmetic's own words. Assumes nothing.
-use Rattle.std.specs.Prelude.{◌≡◌, ℕ, ◌≤◌, false, List, [], ◌∷◌, ◌++◌, Ok, Result}
+use Rattle.std.specs.Prelude.{◌≡◌, ℕ, ◌≤◌, false, List, [], ◌∷◌, ◌++◌, Ok}
 use Rattle.fraction.specs.Ratios.{Ratio}
-use Rattle.arith.specs.declared.ValueFault.{ValueFault}
 use Rattle.arith.specs.Values.{arith_value, digit, most_open}
 use Rattle.arith.specs.Expressions.{Expr, numeral, many, opposite, less, divided, written, nesting, worth, Is, Stays}
 

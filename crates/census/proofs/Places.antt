@@ -1,10 +1,8 @@
 -- Records told behind one another, and lines that tell nothing. Assumes nothing.
-use Rattle.std.proofs.Common.{◌≡◌, ℕ, zero, suc, ◌+◌, ◌<◌, ◌≤◌, Bool, true, false, cond, not, ◌&&◌, List, [], ◌∷◌, ◌++◌, length, set, is_some, Some, None, Option, sym, refl, ap, ◌∙◌, add-zero, arith}
-use Rattle.std.proofs.lemmas.Bool.{cond-true, cond-false}
+use Rattle.std.proofs.Common.{◌≡◌, ℕ, zero, suc, ◌+◌, ◌<◌, ◌≤◌, Bool, true, false, cond, not, ◌&&◌, List, [], ◌∷◌, ◌++◌, length, set, is_some, None, sym, refl, ap, ◌∙◌, add-zero, arith}
+use Rattle.std.proofs.lemmas.Bool.{cond-false}
 use Rattle.words.specs.Laid.{laid}
-use Rattle.words.specs.Words.{words_of, first_of, rest_of}
-use Rattle.census.specs.declared.record.IdCause.{IdCause}
-use Rattle.census.specs.Counts.{class_of, asks_id, word_cause, bad_cause, has_bad_id, has_good_id}
+use Rattle.census.specs.Counts.{class_of, asks_id, bad_cause, has_bad_id, has_good_id}
 use Rattle.census.specs.Steps.{laid_from}
 
 module _ {A : Type 0} where

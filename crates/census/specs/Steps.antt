@@ -1,6 +1,5 @@
 -- One line more is counted; only the count's own steps speak of this. Assumes nothing.
-use Rattle.std.specs.Prelude.{◌≡◌, ℕ, zero, suc, ◌+◌, ◌^◌, ◌<◌, cond, List, [], ◌∷◌, length, slice_index, slice_set}
-use Rattle.words.specs.declared.kind.LineKind.{LineKind}
+use Rattle.std.specs.Prelude.{◌≡◌, ℕ, zero, suc, ◌+◌, ◌^◌, ◌<◌, cond, List, [], ◌∷◌, slice_index, slice_set}
 use Rattle.words.specs.Kinds.{number_of}
 use Rattle.words.specs.Laid.{laid}
 use Rattle.census.specs.declared.record.BadId.{BadId}

@@ -7,7 +7,7 @@ use Rattle.keyed.specs.Meaning.{Names, Kept, kept}
 use Rattle.idents.specs.declared.ident.Ident.{Ident}
 use Rattle.idents.specs.Idents.{ident_laws}
 use Rattle.entries.specs.declared.entry.Entry.{Entry}
-use Rattle.entries.specs.Told.{at, Took, Answer, Judged, Told, ToldOnce}
+use Rattle.entries.specs.Told.{at, Answer, Told, ToldOnce}
 use Rattle.entries.proofs.Running.{kept-answer}
 
 answer_once : (es : List Entry) (j : ℕ) (i : Ident) (o p : Option ℕ) → Answer es j i o → Answer es j i p → o ≡ p

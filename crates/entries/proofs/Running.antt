@@ -1,11 +1,11 @@
 -- The entries so far. Assumes nothing.
-use Rattle.std.proofs.Common.{◌≡◌, ℕ, suc, ◌+◌, ◌<◌, Bool, true, false, cond, List, length, get_or, set, is_ok, Some, None, Ok, Err, Option, Result, sym, refl, ap, ◌∙◌, subst, ⊎_elim, arith, length-set, get_or-set_other, get_or-set_same}
-use Rattle.std.proofs.lemmas.Bool.{both_ways, false≢true, cases_Bool, cases_eq, cases_lt, cond-true, cond-false}
-use Rattle.keyed.specs.Meaning.{Names, Kept, kept, nothing, put, Entered, Finite}
+use Rattle.std.proofs.Common.{◌≡◌, ℕ, ◌+◌, ◌<◌, Bool, true, false, cond, List, length, set, is_ok, Some, None, Ok, Err, Option, Result, sym, refl, ap, ◌∙◌, subst, ⊎_elim, arith, length-set, get_or-set_other, get_or-set_same}
+use Rattle.std.proofs.lemmas.Bool.{both_ways, cases_Bool, cases_eq, cases_lt, cond-true, cond-false}
+use Rattle.keyed.specs.Meaning.{Names, Kept, kept, nothing, put, Finite}
 use Rattle.idents.specs.declared.ident.Ident.{Ident}
 use Rattle.idents.specs.Idents.{same_ident, proper_ident, same_is, same_self}
 use Rattle.entries.specs.declared.entry.Entry.{Entry}
-use Rattle.entries.specs.Told.{at, blank, Took, Last, Answer, Judged, Told}
+use Rattle.entries.specs.Told.{at, blank, Took, Answer, Judged, Told}
 
 pub record Running (roomy : ℕ → Kept Ident → Ident → Bool) (size : ℕ) (before es : List Entry) (j : ℕ) (m : Names Ident ℕ) : Type 0 where
   pub long : length es ≡ length before

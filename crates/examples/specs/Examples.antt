@@ -1,16 +1,16 @@
 -- Worked examples of the readers, computed over their definitions. Assumes nothing.
-use Rattle.std.specs.Prelude.{◌≡◌, ℕ, true, false, List, [], ◌∷◌, Some, None, Ok, Err, codes, Option, Result}
+use Rattle.std.specs.Prelude.{◌≡◌, ℕ, true, false, List, [], ◌∷◌, Some, None, Ok, Err, codes}
 use Rattle.ids.specs.declared.number.NumberFault.TheVariants.{Empty, NotDigit, TooLarge}
 use Rattle.ids.specs.declared.id.IdFault.TheVariants.{NoHash, Number}
 use Rattle.ids.specs.Numbers.{small}
-use Rattle.ids.specs.Ids.{Id, ident, order_of}
-use Rattle.words.specs.declared.kind.LineKind.TheVariants.{MkApp, Eof}
+use Rattle.ids.specs.Ids.{ident, order_of}
+use Rattle.words.specs.declared.kind.LineKind.TheVariants.{MkApp}
 use Rattle.words.specs.Words.{words_of, rest_of}
 use Rattle.words.specs.Kinds.{kind_of}
 use Rattle.names.specs.declared.quant.QidFault.TheVariants.{Missing, Count}
 use Rattle.names.specs.AppNames.{app_name, child_words}
-use Rattle.names.specs.QuantNames.{QuantRead, quant_read}
-use Rattle.names.specs.QuantKinds.{QuantName, by_name, by_number, quant_kind}
+use Rattle.names.specs.QuantNames.{quant_read}
+use Rattle.names.specs.QuantKinds.{by_name, by_number, quant_kind}
 
 -- the words of a line from word 2 on
 abbrev pub from_word2 : List ℕ → List (List ℕ)

@@ -1,5 +1,5 @@
 -- What a front makes of what lies below. Assumes nothing.
-use Rattle.std.proofs.Common.{◌≡◌, ℕ, ◌+◌, ◌<◌, Bool, true, false, cond, ◌&&◌, ◌||◌, eqb, ltb, List, length, get_or, set, is_some, Some, None, Ok, Err, Option, Result, sym, refl, ap, ◌∙◌, subst, ⊎_elim, arith, get_or-set_other, get_or-set_same}
+use Rattle.std.proofs.Common.{◌≡◌, ℕ, ◌<◌, Bool, true, false, cond, ◌||◌, ltb, List, length, get_or, set, is_some, Some, None, Ok, Err, Option, Result, sym, refl, ap, ◌∙◌, subst, ⊎_elim, arith, get_or-set_other, get_or-set_same}
 use mathlib.Core.Path.{fun_ext}
 use Rattle.std.proofs.lemmas.Bool.{both_ways, cases_Bool, cond-true, cond-false, and_parts, or_left, ltb-true}
 use Rattle.keyed.specs.Meaning.{Names, Kept, kept, nothing, put, Entered}
@@ -8,7 +8,7 @@ use Rattle.idents.specs.declared.ident.Ident.{Ident}
 use Rattle.idents.specs.Idents.{same_ident, same_is, same_self}
 use Rattle.front.specs.Lows.{low-more, low-none}
 use Rattle.front.specs.FrontLaws.{below_is, low-is}
-use Rattle.front.specs.Fronts.{no_namespace, low, low_keys, frontal, filled, front_names, kept_below, front_room, Clear}
+use Rattle.front.specs.Fronts.{no_namespace, low, frontal, filled, front_names, kept_below, front_room, Clear}
 
 abbrev names : (Ident → Option ℕ) → ℕ → Names Ident ℕ
 names f n = record { find = f; count = n }

@@ -1,8 +1,8 @@
 -- A front over an index meets the laws of an index, which the trait's member cites. Assumes nothing.
-use Rattle.std.specs.Prelude.{◌≡◌, ℕ, ◌+◌, ◌-◌, ◌<◌, Bool, true, false, cond, ◌&&◌, ◌||◌, List, ◌++◌, length, is_some, Some, None, Option, nat_lt, slice_index_or, refl}
-use Rattle.std.proofs.Common.{sym, ap, subst, ◌∙◌, ⊎_elim, arith, length-append}
+use Rattle.std.specs.Prelude.{◌≡◌, ℕ, ◌+◌, ◌<◌, Bool, true, false, cond, ◌&&◌, ◌||◌, List, ◌++◌, length, is_some, Some, None, Option, nat_lt, slice_index_or, refl}
+use Rattle.std.proofs.Common.{sym, ap, ◌∙◌, ⊎_elim, arith, length-append}
 use Rattle.std.proofs.Math.Path.{fun_ext}
-use Rattle.std.proofs.lemmas.Bool.{both_ways, false≢true, cases_Bool, cond-true, cond-false, and_parts, and_from, or_left, or_right, or_from, lt-ltb}
+use Rattle.std.proofs.lemmas.Bool.{both_ways, false≢true, cases_Bool, cond-true, cond-false, and_parts, or_left, or_right, or_from, lt-ltb}
 use Rattle.keyed.proofs.Counts.{others, same_length, listed-append, apart_append, listed-others, apart_others}
 use Rattle.keyed.specs.Meaning.{Names, Kept, kept, listed, NoRepeats, Finite, IndexLaws}
 use Rattle.idents.specs.declared.ident.Ident.{Ident}

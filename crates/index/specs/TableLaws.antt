@@ -1,5 +1,5 @@
 -- The slot table meets the laws of an index, which the trait's member cites. Assumes nothing.
-use Rattle.std.specs.Prelude.{◌≡◌, ℕ, Bool, true, nat_lt}
+use Rattle.std.specs.Prelude.{◌≡◌, ℕ, true, nat_lt}
 use Rattle.std.proofs.Common.{⊎_elim}
 use Rattle.std.proofs.lemmas.Bool.{both_ways, cases_Bool, and_from, and_left, or_left, or_right, lt-ltb}
 use Rattle.keyed.specs.declared.table.SlotTable.{SlotTable}

@@ -1,22 +1,17 @@
 -- The entries of a list, one by one. Assumes nothing.
-use Rattle.std.proofs.Common.{◌≡◌, ℕ, zero, suc, ◌+◌, ◌-◌, ◌<◌, ◌≤◌, Bool, true, false, cond, not, ◌&&◌, eqb, List, [], ◌∷◌, length, drop, is_some, Some, None, Ok, Err, Option, Result, sym, refl, ap, ◌∙◌, ⊎_elim, add-zero, zero-add, arith, length-drop, Bor}
-use Rattle.std.specs.Option.{option_zip}
+use Rattle.std.proofs.Common.{◌≡◌, ℕ, zero, suc, ◌+◌, ◌-◌, ◌<◌, true, false, List, [], ◌∷◌, length, drop, is_some, Some, None, Ok, Err, Option, Result, sym, refl, ap, ◌∙◌, add-zero, zero-add, arith, Bor}
 use Rattle.std.specs.Option as options
 use Rattle.std.specs.Result.{result_map_both}
-use Rattle.std.proofs.lemmas.Bool.{cond-true, cond-false, cases_Bool, eqb-true, not-false}
-use Rattle.words.specs.Words.{ahead, words_of}
+use Rattle.words.specs.Words.{ahead}
 use Rattle.words.proofs.Cut.{words_count}
 use Rattle.pairs.specs.declared.types.Form.{Form}
 use Rattle.pairs.specs.declared.types.Form.TheVariants.{OneWord, TwoWords, Apart}
 use Rattle.pairs.specs.declared.types.NameForm.{NameForm}
-use Rattle.pairs.specs.declared.types.PairFault.{PairFault}
-use Rattle.pairs.specs.declared.types.PairFault.TheVariants.{TwoForms}
 use Rattle.pairs.specs.declared.types.PairRefusal.{PairRefusal}
-use Rattle.pairs.specs.Forms.{words_in, differs}
-use Rattle.pairs.specs.Texts.{front_off, end_off}
-use Rattle.pairs.specs.Pairs.{PairModel, told, form_ahead, parts_ahead, unbracketed, of_parts, of_form, read_pair}
+use Rattle.pairs.specs.Forms.{words_in}
+use Rattle.pairs.specs.Pairs.{PairModel, read_pair}
 use Rattle.pairs.specs.declared.types.NamesText.{NamesText}
-use Rattle.pairs.specs.Names.{NamesModel, entry_read, entries_read, onto, sorted_at, list_kind, listed, of_first, names_read, names_said}
+use Rattle.pairs.specs.Names.{NamesModel, entry_read, entries_read, onto, list_kind, listed, of_first, names_read, names_said}
 
 abbrev Pairs : Type 0
 Pairs = List (List ℕ × List ℕ)

@@ -1,5 +1,5 @@
 -- Pairs and lists that are written are read back. Assumes nothing.
-use Rattle.std.proofs.Common.{◌≡◌, ℕ, ◌+◌, ◌<◌, Bool, true, false, cond, ◌&&◌, eqb, List, [], ◌∷◌, ◌++◌, length, drop, is_some, Some, None, Ok, Err, Option, Result, sym, refl, ap, ◌∙◌, append_assoc, arith}
+use Rattle.std.proofs.Common.{◌≡◌, ℕ, ◌+◌, ◌<◌, Bool, true, false, cond, ◌&&◌, eqb, List, [], ◌∷◌, ◌++◌, length, drop, is_some, Some, None, Ok, Option, sym, refl, ap, ◌∙◌, append_assoc, arith}
 use Rattle.std.specs.Option.{option_map, option_zip, ok_or}
 use Rattle.std.specs.Result as results
 use Rattle.std.specs.List.{AllByRecursion}
@@ -12,10 +12,10 @@ use Rattle.pairs.specs.declared.types.NameForm.{NameForm}
 use Rattle.pairs.specs.declared.types.NameForm.TheVariants.{TypeOnly, NameAndType}
 use Rattle.pairs.specs.declared.types.PairFault.TheVariants.{BarMissing}
 use Rattle.pairs.specs.Forms.{words_in, differs}
-use Rattle.pairs.specs.Texts.{front_off, end_off, closes, bars_off, semicolon, two_of}
-use Rattle.pairs.specs.Pairs.{PairModel, told, form_ahead, parts_ahead, read_pair, sorted}
-use Rattle.pairs.specs.Names.{NamesModel, list_kind, sorted_at, entry_read, entries_read, onto, listed, of_first, names_read}
-use Rattle.pairs.specs.Law.{pair_text, Lacks, FitsForm, Writable, PairsBack, barred, raw_first, raw_second, Nameless, Entry, list_words, ListsBack}
+use Rattle.pairs.specs.Texts.{end_off, closes, bars_off, semicolon, two_of}
+use Rattle.pairs.specs.Pairs.{told, form_ahead, parts_ahead, read_pair, sorted}
+use Rattle.pairs.specs.Names.{NamesModel, list_kind, sorted_at, entry_read, entries_read, onto, listed, of_first}
+use Rattle.pairs.specs.Law.{pair_text, Lacks, FitsForm, PairsBack, barred, raw_first, raw_second, Nameless, Entry, list_words, ListsBack}
 use Rattle.pairs.proofs.Ends.{end_push}
 use Rattle.pairs.proofs.Stages.{pair_read}
 use Rattle.pairs.proofs.Entries.{entries_more}

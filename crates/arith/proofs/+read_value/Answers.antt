@@ -1,4 +1,4 @@
-use Rattle.std.proofs.Common.{◌≡◌, ℕ, ◌+◌, ◌-◌, ◌<◌, ◌≤◌, List, length, get_or, take, drop, Some, None, Ok, Err, Result, sym, ap, ◌∙◌, subst, arith}
+use Rattle.std.proofs.Common.{◌≡◌, ℕ, ◌+◌, ◌-◌, ◌<◌, ◌≤◌, length, take, drop, Some, None, Ok, Err, Result, sym, ap, ◌∙◌, subst, arith}
 use native.Mathlib.Nat.{sub-zero}
 use Rattle.std.specs.Option.{ok_or}
 use Rattle.std.proofs.lemmas.List.{take_rest, drop-drop, length-drop, take-map}
@@ -7,10 +7,9 @@ use Rattle.std.proofs.lemmas.Option.{MatchOption-at_some}
 use Rattle.arith.specs.declared.ValueFault.{ValueFault}
 use Rattle.arith.specs.declared.ValueFault.TheVariants.{Unreadable}
 use Rattle.words.specs.Joined.{spaces}
-use Rattle.arith.specs.Values.{Read, value_at, arguments, bracket, operator_of, cut_at_space, fold_in, at_close, then, none}
+use Rattle.arith.specs.Values.{value_at, arguments, bracket, operator_of, cut_at_space, fold_in, then, none}
 use Rattle.arith.specs.Answers.{cut_in, tallied, read_in}
-use Rattle.arith.proofs.Spaced
-use Rattle.arith.proofs.Spaced.{blank, spaces-length, spaces-rest, spaces-drop, blank-operator, within, seen-space, seen-no_space, seen-digit, seen-open, seen-no_open, seen-close, seen-no_close}
+use Rattle.arith.proofs.Spaced.{blank, spaces-length, spaces-rest, blank-operator, within, seen-space, seen-no_space, seen-digit, seen-open, seen-no_open, seen-close, seen-no_close}
 use Rattle.arith.proofs.Steps.{value_empty, value_digit, value_other, value_deep, value_opens, at-space, at-close, at_other, at-end, refuses}
 use Rattle.arith.proofs.+read_value.Goals as goal
 use Rattle.arith.proofs.+read_value.Goals.{then-loop-at-test+else-is_separator, else-loop-at-test, then-at-text-via-then-at-text, then-at-text-via-else-at-text+then-text-at-ne41}

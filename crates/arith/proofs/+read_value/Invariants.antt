@@ -1,4 +1,4 @@
-use Rattle.std.proofs.Common.{◌≡◌, ℕ, ◌+◌, ◌-◌, ◌<◌, ◌≤◌, length, drop}
+use Rattle.std.proofs.Common.{◌≡◌, ℕ, ◌-◌, ◌<◌, ◌≤◌, length, drop}
 use Rattle.words.specs.Joined.{spaces}
 use Rattle.arith.specs.Values.{value_at, arguments}
 use Rattle.arith.specs.Answers.{tallied}

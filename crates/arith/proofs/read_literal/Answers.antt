@@ -1,12 +1,12 @@
-use Rattle.std.proofs.Common.{◌≡◌, ℕ, ◌+◌, ◌-◌, ◌*◌, ◌^◌, ◌<◌, ◌≤◌, min, List, length, get_or, drop, Ok, Err, sym, ap, ◌∙◌, arith}
+use Rattle.std.proofs.Common.{◌≡◌, ℕ, ◌+◌, ◌-◌, ◌*◌, ◌^◌, min, List, length, get_or, drop, Ok, Err, sym, ap, ◌∙◌, arith}
 use Rattle.std.proofs.lemmas.Result.{err_from_is_err_and}
 use Rattle.fraction.specs.Ratios.{whole}
-use Rattle.fraction.specs.Fractions.{lowest, told}
+use Rattle.fraction.specs.Fractions.{lowest}
 use Rattle.words.specs.Joined.{spaces}
 use Rattle.arith.specs.Faults.{value_fault}
 use Rattle.arith.specs.Values.{digits_after, literal_of, then, worked}
 use Rattle.arith.proofs.Spaced.{spaces-length, within, seen-digit, seen-worth}
-use Rattle.arith.proofs.Steps.{digits_yes, digits_no, digits_end, digit_low, saturated_same, refuses}
+use Rattle.arith.proofs.Steps.{digits_yes, digits_no, digits_end, saturated_same, refuses}
 use Rattle.arith.proofs.read_literal.Goals as goal
 use Rattle.arith.proofs.read_literal.Goals.{then-loop-end-test+else-is_digit, else-loop-end-test}
 

@@ -1,4 +1,4 @@
-use Rattle.std.proofs.Common.{◌≡◌, ℕ, ◌<◌, Bool, cond, length, sym, refl, ap, ◌∙◌, arith}
+use Rattle.std.proofs.Common.{◌≡◌, ◌<◌, cond, length, sym, refl, ap, ◌∙◌, arith}
 use Rattle.keyed.specs.Meaning.{kept, nothing, put}
 use Rattle.keyed.specs.Refusals.{no_room}
 use Rattle.idents.specs.Idents.{same_ident}

@@ -1,8 +1,6 @@
-use Rattle.std.proofs.Common.{◌≡◌, ◌+◌, ◌∷◌, drop, sym, refl, ap, ◌∙◌}
+use Rattle.std.proofs.Common.{◌+◌, ◌∷◌, drop, sym, refl, ap, ◌∙◌}
 use Rattle.std.proofs.lemmas.List.{drop_more, drop_all}
 use Rattle.keyed.specs.Tables.{table_size, table_means, unused}
-use Rattle.keyed.specs.Meaning.{Names, kept, put}
-use Rattle.keyed.specs.Slots.{table_room}
 use Rattle.numbers.specs.Filled.{entered, entered_all}
 use Rattle.numbers.proofs.enter_each.Goals as goal
 

@@ -1,5 +1,4 @@
 use Rattle.std.proofs.Common.{sym, ap, ◌∙◌, rules}
-use Rattle.keyed.specs.Tables.{unused}
 use Rattle.numbers.specs.Filled.{entered_all}
 use Rattle.numbers.proofs.in_table.Goals as goal
 

@@ -1,6 +1,6 @@
-use Rattle.std.proofs.Common.{◌≡◌, ℕ, ◌+◌, ◌<◌, List, [], ◌∷◌, length, sym, ap, ◌∙◌, subst, arith}
+use Rattle.std.proofs.Common.{◌≡◌, ◌∷◌, length, ap, subst, arith}
 use Rattle.words.proofs.Cut.{from_first, none_first}
-use Rattle.lines.specs.Lines.{ahead, lines_of}
+use Rattle.lines.specs.Lines.{ahead}
 use Rattle.census.specs.Found.{CensusOf}
 use Rattle.census.proofs.Running.{Running, running_start, running_more, running_small, running_end}
 use Rattle.census.proofs.count.count_lines.Goals as goal

@@ -1,4 +1,4 @@
-use Rattle.std.proofs.Common.{◌≡◌, ℕ, ◌+◌, true, false, cond, get_or, set, sym, refl, ap, ◌∙◌}
+use Rattle.std.proofs.Common.{◌+◌, get_or, set, sym, refl, ap, ◌∙◌}
 use Rattle.census.specs.Counts.{asks_id, class_of, is_unknown, is_too_long, has_good_id, has_bad_id, noted}
 use Rattle.census.specs.Steps.{bumped, laid_from}
 use Rattle.census.proofs.Places.{quiet, yes, no_more, laid_none}

@@ -1,4 +1,4 @@
-use Rattle.std.proofs.Common.{◌≡◌, sym, ap, ◌∙◌}
+use Rattle.std.proofs.Common.{sym, ap, ◌∙◌}
 use Rattle.census.specs.Counts.{noted}
 use Rattle.census.specs.Steps.{laid_from}
 use Rattle.census.proofs.Places.{laid_none, laid-set, laid-past}

@@ -1,4 +1,4 @@
-use Rattle.std.proofs.Common.{◌≡◌, ℕ, suc, ◌+◌, ◌≤◌, Bool, true, false, cond, length, refl, ap, ◌∙◌, add-one, arith}
+use Rattle.std.proofs.Common.{◌≡◌, ℕ, ◌+◌, ◌≤◌, Bool, true, false, cond, length, refl, ap, ◌∙◌, add-one, arith}
 use mir.Val.{bool_byte}
 use Rattle.front.specs.Fronts.{filled, low_keys}
 use Rattle.front.specs.Lows.{length-cond}

@@ -1,4 +1,4 @@
-use Rattle.std.proofs.Common.{◌≡◌, Err, sym, refl, ap, ◌∙◌, add-zero}
+use Rattle.std.proofs.Common.{Err, sym, refl, ap, ◌∙◌, add-zero}
 use Rattle.words.specs.Words.{ahead}
 use Rattle.pairs.specs.declared.types.PairFault.TheVariants.{TwoForms, Bracket}
 use Rattle.pairs.specs.Pairs.{told}

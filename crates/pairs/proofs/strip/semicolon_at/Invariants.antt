@@ -1,4 +1,4 @@
-use Rattle.std.proofs.Common.{◌≡◌, ℕ, ◌+◌, not, drop}
+use Rattle.std.proofs.Common.{◌≡◌, ◌+◌, not, drop}
 use Rattle.std.specs.List.{prefix_len}
 use Rattle.pairs.specs.Texts.{semicolon}
 use Rattle.pairs.proofs.strip.semicolon_at.Given as goal

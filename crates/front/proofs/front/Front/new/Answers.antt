@@ -1,4 +1,4 @@
-use Rattle.std.proofs.Common.{◌≡◌, ℕ, replicate, None, refl, ap}
+use Rattle.std.proofs.Common.{ℕ, replicate, None, refl, ap}
 use lib.ListN.{get_or-replicate}
 use Rattle.keyed.specs.Meaning.{Names}
 use Rattle.idents.specs.declared.ident.Ident.{Ident}

@@ -1,4 +1,4 @@
-use Rattle.std.proofs.Common.{◌≡◌, ℕ, ◌+◌, min, ap, ◌∙◌, arith}
+use Rattle.std.proofs.Common.{◌≡◌, ℕ, ◌+◌, min, ◌∙◌, arith}
 use Rattle.front.proofs.front.FrontTermIdToIdxMap.held.Goals as goal
 
 capped : (a b most : ℕ) → min (a + min b most) most ≡ min (a + b) most
