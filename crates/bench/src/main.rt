@@ -155,7 +155,7 @@ fn kinds(rt: &HostRuntime, many: u32, slots: usize) -> anyhow::Result<()> {
 fn run(rt: &HostRuntime) -> anyhow::Result<()> {
     let mut full = false;
     for word in env::args(rt)? {
-        full = full | (word == "full");
+        full = full | (word.as_str() == "full");
     }
     if full {
         kinds(rt, 100000, 200000)?;

@@ -88,15 +88,15 @@ fn read_command(line: &[u8]) -> Result<Asked, &'static str> {
     if words.next().is_some() {
         return Err("too many words");
     }
-    if command == b"enter" {
+    if command == b"enter".as_slice() {
         return enter_number(number);
     }
     if number.is_some() {
         return Err("too many words");
     }
-    if command == b"find" {
+    if command == b"find".as_slice() {
         Ok(Asked::Find)
-    } else if command == b"room" {
+    } else if command == b"room".as_slice() {
         Ok(Asked::Room)
     } else {
         Err("unknown command")

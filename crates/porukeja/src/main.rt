@@ -12,6 +12,7 @@ mod tests;
 
 use failed::Failed;
 use options::Command;
+use std::process::ExitCode;
 use std::{env, io};
 
 fn command(rt: &HostRuntime) -> io::Result<Command> {
@@ -23,9 +24,9 @@ fn command(rt: &HostRuntime) -> io::Result<Command> {
     Ok(options::read(heap, &words[..])?)
 }
 
-fn main(rt: HostRuntime) -> Result<(), Failed> {
-    match command(&rt) {
-        Err(why) => Err(failed::tell(&rt, "cannot read the arguments", "", why)),
+fn run(rt: &HostRuntime) -> Result<(), Failed> {
+    match command(rt) {
+        Err(why) => Err(failed::tell(rt, "cannot read the arguments", "", why)),
         Ok(Command::Wrong(why)) => {
             let _ = eprintln!(rt; "porukeja: {why}");
             let _ = rt.eprint(options::USAGE);
@@ -33,9 +34,16 @@ fn main(rt: HostRuntime) -> Result<(), Failed> {
         }
         Ok(Command::Help) => match rt.print(options::USAGE) {
             Ok(()) => Ok(()),
-            Err(why) => Err(failed::tell(&rt, "cannot write", "", why)),
+            Err(why) => Err(failed::tell(rt, "cannot write", "", why)),
         },
-        Ok(Command::Kinds(wanted)) => kinds::run(&rt, &wanted),
-        Ok(Command::Index(wanted)) => entering::run(&rt, &wanted),
+        Ok(Command::Kinds(wanted)) => kinds::run(rt, &wanted),
+        Ok(Command::Index(wanted)) => entering::run(rt, &wanted),
+    }
+}
+
+fn main(rt: HostRuntime) -> ExitCode {
+    match run(&rt) {
+        Ok(()) => ExitCode::SUCCESS,
+        Err(Failed) => ExitCode::FAILURE,
     }
 }
