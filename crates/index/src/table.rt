@@ -55,6 +55,7 @@ pub fn term_table<'a>(slots: &'a mut [Slot<Ident, u32>], seed: u64) -> SlotTable
     ensures sound { TermTableSound result }
     ensures empty { table_means same_ident result ≡ nothing }
     ensures size { table_size result ≡ min (length slots.old) 16777216 }
+    ensures seeded { result.seed ≡ seed }
     ensures beyond { unused result.slots.now ≡ unused slots.old }
     ensures lent { result.slots.ghost_name ≡ slots.entry.ghost_name }
 {

@@ -10,6 +10,7 @@ returns c =
       sound = (fresh.sound, λ i _. ap (λ (m : Names Ident ℕ). m.find i) fresh.empty);
       empty = fresh.empty;
       size = fresh.size;
+      seeded = fresh.seeded;
       beyond = fresh.beyond;
       lent = fresh.lent;
     }
