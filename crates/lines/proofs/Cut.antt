@@ -1,8 +1,12 @@
 -- One physical line taken off the front of the bytes. Assumes nothing.
 use Rattle.std.proofs.Common.{◌≡◌, ℕ, suc, ◌+◌, ◌-◌, ◌<◌, ◌≤◌, min, Bool, true, false, cond, not, ◌&&◌, ◌||◌, eqb, List, [], ◌∷◌, length, get_or, take, drop, sym, refl, ap, ◌∙◌, ⊎_elim, le_refl, suc-add, sub-one, one-add, arith}
 use native.Mathlib.Nat.{min-eq_left, min-eq_right}
+use native.Mathlib.Numerals.{unary_clauses}
 use Rattle.std.proofs.lemmas.List.{take_all, drop_all, at_drop_more, at_drop_all}
 use Rattle.std.proofs.lemmas.Bool.{cases_lt, eqb-true, eq-eqb, ne_eqb, or_left, or_parts, true≢false, false≢true}
+use Rattle.std.specs.List.{ends_with}
+use Rattle.std.specs.Cmp.Lexicographic.{pointwise}
+use Rattle.lines.specs.declared.LineMode.{LineMode}
 use Rattle.lines.specs.declared.LineMode.TheVariants.{EachLine}
 use Rattle.words.specs.Words.{separates}
 use Rattle.lines.specs.Lines.{is_lf, held, longer, ended, piece, line_len, front, up_next, blank, begins, opens, ends_in, lines_of}
@@ -60,19 +64,6 @@ front-end b bs e = rw e refl
 pub front-more : (b : ℕ) (bs : List ℕ) → is_lf b ≡ false → front (b ∷ bs) ≡ b ∷ front bs
 front-more b bs e = rw (e, one-add) refl
 
--- whether the front is blank, as a loop finds it out: at i there is an LF, a separator, another byte, or nothing
-pub blank-end : (xs : List ℕ) (i : ℕ) → i < length xs → is_lf (get_or xs i 0) ≡ true → blank (front (drop i xs)) ≡ true
-blank-end xs i h e = at_drop_more (λ ys. blank (front ys)) xs i 0 h ∙ ap blank (front-end (get_or xs i 0) (drop (i + 1) xs) e)
-
-pub blank-more : (xs : List ℕ) (i : ℕ) → i < length xs → is_lf (get_or xs i 0) ≡ false → separates (get_or xs i 0) ≡ true → blank (front (drop i xs)) ≡ blank (front (drop (i + 1) xs))
-blank-more xs i h e s = at_drop_more (λ ys. blank (front ys)) xs i 0 h ∙ ap blank (front-more (get_or xs i 0) (drop (i + 1) xs) e) ∙ ap (λ t. t && blank (front (drop (i + 1) xs))) s
-
-pub blank-not : (xs : List ℕ) (i : ℕ) → i < length xs → is_lf (get_or xs i 0) ≡ false → separates (get_or xs i 0) ≡ false → blank (front (drop i xs)) ≡ false
-blank-not xs i h e s = at_drop_more (λ ys. blank (front ys)) xs i 0 h ∙ ap blank (front-more (get_or xs i 0) (drop (i + 1) xs) e) ∙ ap (λ t. t && blank (front (drop (i + 1) xs))) s
-
-pub blank-all : (xs : List ℕ) (i : ℕ) → length xs ≤ i → blank (front (drop i xs)) ≡ true
-blank-all xs i h = at_drop_all (λ ys. blank (front ys)) xs i h
-
 -- at the end of the first physical line stands an LF
 pub lf_at : (xs : List ℕ) → line_len xs < length xs → get_or xs (line_len xs) 0 ≡ 10
 lf_at [] h = absurd (omega arith)
@@ -84,38 +75,17 @@ lf_at (b ∷ bs) h =
     ] in
     at (is_lf b) refl h
 
--- a physical line that begins with `[`, and one that does not
-pub opens-mark : (xs : List ℕ) → get_or xs 0 0 ≡ 91 → opens xs ≡ true
-opens-mark [] e = absurd (omega arith)
-opens-mark (b ∷ bs) e = or_left (begins (front (b ∷ bs))) (blank (front (b ∷ bs))) (ap begins (front-more b bs (ne_eqb b 10 (λ k. omega arith))) ∙ eq-eqb b 91 e)
+-- the last byte, as a test of the end of length one
+ends_in-by : (P : List ℕ → Bool) (b : ℕ) → P [] ≡ false → ((x : ℕ) → P (x ∷ []) ≡ eqb x b) → (xs : List ℕ) → P (drop (length xs - 1) xs) ≡ ends_in b xs
+ends_in-by P b none one [] = none
+ends_in-by P b none one (x ∷ []) = one x
+ends_in-by P b none one (x ∷ y ∷ ys) = let h = ends_in-by P b none one (y ∷ ys) in simp unary_clauses (simp unary_clauses at h)
 
-pub opens_not : (xs : List ℕ) → (get_or xs 0 0 ≡ 91 → ⊥) → opens xs ≡ blank (front xs)
-opens_not [] e = refl
-opens_not (b ∷ bs) e =
-    let P : Bool → Type 0 = λ t. is_lf b ≡ t → begins (front (b ∷ bs)) ≡ false in
-    let at : (t : Bool) → P t = λ t. elim t as P [
-      | true ↦ λ k. ap begins (front-end b bs k)
-      | false ↦ λ k. ap begins (front-more b bs k) ∙ ne_eqb b 91 e
-    ] in
-    ap (λ t. t || blank (front (b ∷ bs))) (at (is_lf b) refl)
+pub ends_in-with : (b : ℕ) (xs : List ℕ) → ends_with eqb xs (b ∷ []) ≡ ends_in b xs
+ends_in-with b xs = ends_in-by (λ t. pointwise eqb (b ∷ []) t) b refl (λ x. grind arith) xs
 
-pub opens-none : (xs : List ℕ) → length xs ≡ 0 → opens xs ≡ blank (front xs)
-opens-none [] e = refl
-opens-none (b ∷ bs) e = absurd (omega arith)
-
--- the last byte
-pub ends_in-last : (b : ℕ) (xs : List ℕ) → 0 < length xs → ends_in b xs ≡ eqb (get_or xs (length xs - 1) 0) b
-ends_in-last b [] h = absurd (omega arith)
-ends_in-last b (x ∷ []) h = refl
-ends_in-last b (x ∷ y ∷ ys) h = ends_in-last b (y ∷ ys) (omega arith) ∙ simp sub-one refl
-
-pub ends_in-none : (b : ℕ) (xs : List ℕ) → length xs ≤ 0 → ends_in b xs ≡ false
-ends_in-none b [] h = refl
-ends_in-none b (x ∷ xs) h = absurd (omega arith)
-
-pub ends_in-some : (b : ℕ) (xs : List ℕ) → ends_in b xs ≡ true → 0 < length xs
-ends_in-some b [] e = absurd (false≢true e)
-ends_in-some b (x ∷ xs) e = omega arith
+pub ends_in-tail : (b : ℕ) (xs : List ℕ) → pointwise eqb (drop (length xs - 1) xs) (b ∷ []) ≡ ends_in b xs
+ends_in-tail b xs = ends_in-by (λ t. pointwise eqb t (b ∷ [])) b refl (λ x. grind arith) xs
 
 -- without an LF everything is the last piece
 pub nothing-ended : (xs : List ℕ) → held (ended xs) ≡ false → piece xs ≡ xs
@@ -139,22 +109,14 @@ piece-held (b ∷ c ∷ cs) =
     ] in
     at (is_lf b || held (ended ys)) refl ∙ piece-held (c ∷ cs)
 
-pub piece-some : (xs : List ℕ) → (length xs ≡ 0 → ⊥) → held (piece xs) ≡ not (ends_in 10 xs)
-piece-some [] h = absurd (h refl)
-piece-some (b ∷ bs) h = piece-held (b ∷ bs)
-
-pub piece-none : (xs : List ℕ) → length xs ≡ 0 → held (piece xs) ≡ false
-piece-none [] h = refl
-piece-none (b ∷ bs) h = absurd (omega arith)
-
--- the first line where every LF ends one: n is what `line_feed` answered
-pub each_cut : (xs : List ℕ) (n : ℕ) → n ≡ line_len xs → (length xs ≡ 0 → ⊥) → lines_of EachLine xs ≡ take n xs ∷ lines_of EachLine (drop (min (n + 1) (length xs)) xs)
-each_cut [] n e h = absurd (h refl)
-each_cut (b ∷ bs) n e h =
+-- the first line where every LF ends one: n is what `line_feed` answered, and k where the next line begins
+pub each_cut : (m : LineMode) (xs : List ℕ) (n k : ℕ) → m ≡ EachLine → n ≡ line_len xs → false ≡ eqb (length xs) 0 → k ≡ min (n + 1) (length xs) → lines_of m xs ≡ take n xs ∷ lines_of m (drop k xs)
+each_cut m [] n k m_is e h k_is = absurd (true≢false (sym h))
+each_cut m (b ∷ bs) n k m_is e h k_is =
     let xs = b ∷ bs in
     ⊎_elim
-    (λ lt. let k : n + 1 ≤ length xs = omega arith in rw (min-eq_left k, e, ended-cut xs lt, piece_cut xs lt) refl)
-    (λ le. let k : length xs ≤ n + 1 = omega arith in rw (min-eq_right k, e, ended-none xs le, piece-all xs le, take_all (line_len xs) xs le, drop_all (length xs) xs (le_refl (length xs))) refl)
+    (λ lt. let j : n + 1 ≤ length xs = omega arith in rw (m_is, k_is, min-eq_left j, e, ended-cut xs lt, piece_cut xs lt) refl)
+    (λ le. let j : length xs ≤ n + 1 = omega arith in rw (m_is, k_is, min-eq_right j, e, ended-none xs le, piece-all xs le, take_all (line_len xs) xs le, drop_all (length xs) xs (le_refl (length xs))) refl)
     (cases_lt (line_len xs) (length xs))
 
 pub each_none : (xs : List ℕ) → length xs ≡ 0 → lines_of EachLine xs ≡ []

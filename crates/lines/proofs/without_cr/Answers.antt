@@ -1,6 +1,11 @@
-use Rattle.std.proofs.Common.{sym, arith}
-use Rattle.lines.proofs.Cut.{ends_in-some}
+use Rattle.std.proofs.Common.{arith, ◌≡◌, ℕ, ◌-◌, ◌+◌, Bool, true, false, cond, List, [], ◌∷◌, length, take, drop, eqb, sym, ap, ◌∙◌, Some, None, Option, MatchOption, Bor}
+use Rattle.std.specs.Cmp.Lexicographic.{pointwise}
+use Rattle.std.specs.Option.{unwrap_or}
+use Rattle.lines.specs.Lines.{ends_in, trimmed}
+use Rattle.lines.proofs.Cut.{ends_in-tail}
 use Rattle.lines.proofs.without_cr.Goals as goal
 
-pub slice_bounds-result-count : goal.slice_bounds-result-count
-slice_bounds-result-count c = omega (arith, ends_in-some 13 c.args.line.now (sym c.if-ends_in.ensures))
+pub returns : goal.returns
+returns c =
+    let e = ends_in-tail 13 c.args.line.now in
+    grind arith
