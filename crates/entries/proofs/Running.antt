@@ -1,7 +1,7 @@
 -- The entries so far. Assumes nothing.
 use Rattle.std.proofs.Common.{◌≡◌, ℕ, ◌+◌, ◌<◌, Bool, true, false, cond, List, length, set, is_ok, Some, None, Ok, Err, Option, Result, sym, refl, ap, ◌∙◌, subst, ⊎_elim, arith, length-set, get_or-set_other, get_or-set_same}
 use Rattle.std.proofs.lemmas.Bool.{both_ways, cases_Bool, cases_eq, cases_lt, cond-true, cond-false}
-use Rattle.keyed.specs.Meaning.{Names, Kept, kept, nothing, put, Finite}
+use Rattle.keyed.specs.Meaning.{Names, Kept, kept, nothing, put, Entered, Finite}
 use Rattle.idents.specs.declared.ident.Ident.{Ident}
 use Rattle.idents.specs.Idents.{same_ident, proper_ident, same_is, same_self}
 use Rattle.entries.specs.declared.entry.Entry.{Entry}
@@ -37,6 +37,11 @@ passed es j i (Some n) none a = record {
   later = λ k past lt t. ⊎_elim (λ below. a.later k past below t) (λ over. let e : k ≡ j = omega arith in none (subst (λ z. Took (at es z) i) e t)) (cases_lt k j);
 }
 
+-- with the answer of an entry, whether it was taken
+ok_is : {E : Type 0} (room : Bool) (old : Option ℕ) (x : E) (r : Result (Option ℕ) E) → r ≡ cond room (Ok old) (Err x) → is_ok r ≡ room
+ok_is true old x r e = ap is_ok e
+ok_is false old x r e = ap is_ok e
+
 module _ (roomy : ℕ → Kept Ident → Ident → Bool) (size : ℕ) (before : List Entry) where
   pub start : (m : Names Ident ℕ) → m ≡ nothing → Running roomy size before before 0 m
   start m e = record {
@@ -47,9 +52,18 @@ module _ (roomy : ℕ → Kept Ident → Ident → Bool) (size : ℕ) (before : 
     finds = λ i. subst (λ (z : Names Ident ℕ). Answer before 0 i (z.find i)) (sym e) (λ k lt _. omega arith);
   }
 
-  module _ (es : List Entry) (j : ℕ) (lt : j < length es) (m after : Names Ident ℕ) (e : Entry) (b : Bool) (room : b ≡ roomy size (kept m) e.id) (read : at es j ≡ e) (leaves : after ≡ cond b (put same_ident m e.id e.number) m) where
+  module _ {E : Type 0} (es : List Entry) (j : ℕ) (lt : j < length es) (m after : Names Ident ℕ) (x : E) (r : Result (Option ℕ) E) (did : Entered same_ident (roomy size (kept m) (at es j).id) (at es j).id (at es j).number x m after r) (b : Bool) (mark : b ≡ is_ok r) where
+    abbrev e : Entry
+    e = at es j
+
     abbrev marked : Entry
     marked = record { id = e.id; number = e.number; taken = b }
+
+    room : b ≡ roomy size (kept m) e.id
+    room = mark ∙ ok_is (roomy size (kept m) e.id) (m.find e.id) x r did.answers
+
+    leaves : after ≡ cond b (put same_ident m e.id e.number) m
+    leaves = did.leaves ∙ ap (λ z. cond z (put same_ident m e.id e.number) m) (sym room)
 
     abbrev fs : List Entry
     fs = set es j marked
@@ -88,8 +102,8 @@ module _ (roomy : ℕ → Kept Ident → Ident → Bool) (size : ℕ) (before : 
     pub more : Finite same_ident proper_ident (kept m) → Running roomy size before es j m → Running roomy size before fs (j + 1) after
     more fin run = record {
       long = length-set es j marked ∙ run.long;
-      ids = λ k. ⊎_elim (λ q. ap (λ z. (at fs z).id) q ∙ ap (λ (z : Entry). z.id) here ∙ ap (λ (z : Entry). z.id) (sym read) ∙ ap (λ z. (at es z).id) (sym q) ∙ run.ids k) (λ ne. ap (λ (z : Entry). z.id) (there k ne) ∙ run.ids k) (cases_eq k j);
-      numbers = λ k. ⊎_elim (λ q. ap (λ z. (at fs z).number) q ∙ ap (λ (z : Entry). z.number) here ∙ ap (λ (z : Entry). z.number) (sym read) ∙ ap (λ z. (at es z).number) (sym q) ∙ run.numbers k) (λ ne. ap (λ (z : Entry). z.number) (there k ne) ∙ run.numbers k) (cases_eq k j);
+      ids = λ k. ⊎_elim (λ q. ap (λ z. (at fs z).id) q ∙ ap (λ (z : Entry). z.id) here ∙ ap (λ z. (at es z).id) (sym q) ∙ run.ids k) (λ ne. ap (λ (z : Entry). z.id) (there k ne) ∙ run.ids k) (cases_eq k j);
+      numbers = λ k. ⊎_elim (λ q. ap (λ z. (at fs z).number) q ∙ ap (λ (z : Entry). z.number) here ∙ ap (λ z. (at es z).number) (sym q) ∙ run.numbers k) (λ ne. ap (λ (z : Entry). z.number) (there k ne) ∙ run.numbers k) (cases_eq k j);
       judged = λ k lk. ⊎_elim (λ lo. moved k lo (run.judged k lo)) (λ hi. let q : k ≡ j = omega arith in subst (λ z. Judged roomy size fs z) (sym q) last) (cases_lt k j);
       finds = λ i. answer_after i (run.finds i);
     }
@@ -119,8 +133,3 @@ module _ (roomy : ℕ → Kept Ident → Ident → Bool) (size : ℕ) (before : 
     finds = λ i. subst (λ z. Answer es z i (m.find i)) q (run.finds i);
     counts = fin;
   }
-
--- with the answer of an entry, whether it was taken
-pub ok_is : {E : Type 0} (room : Bool) (old : Option ℕ) (x : E) (r : Result (Option ℕ) E) → r ≡ cond room (Ok old) (Err x) → is_ok r ≡ room
-ok_is true old x r e = ap is_ok e
-ok_is false old x r e = ap is_ok e
