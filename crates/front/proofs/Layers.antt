@@ -51,13 +51,13 @@ module _ (orders : List (Option ℕ)) (m : Names Ident ℕ) (i : Ident) (n : ℕ
       λ j. names (fun_ext find j) (count j)
 
   -- an entry in the front's own places
-  pub entered-low : {E : Type 0} (roomy : ℕ → Kept Ident → Ident → Bool) (size : ℕ) (refusal : E) → frontal i ≡ true → i.order < length orders
-      → Entered same_ident (front_room roomy size (kept (front_names orders m)) i) i n refusal (front_names orders m) (front_names (set orders i.order (Some n)) m) (Ok (get_or orders i.order None))
-  entered-low roomy size refusal lo within =
+  pub entered-low : {E : Type 0} {old : Option ℕ} {after : List (Option ℕ)} (roomy : ℕ → Kept Ident → Ident → Bool) (size : ℕ) (refusal : E) → frontal i ≡ true → i.order < length orders → old ≡ get_or orders i.order None → after ≡ set orders i.order (Some n)
+      → Entered same_ident (front_room roomy size (kept (front_names orders m)) i) i n refusal (front_names orders m) (front_names after m) (Ok old)
+  entered-low roomy size refusal lo within found made =
       taken
       (or_left (frontal i) (roomy size (kept_below (kept (front_names orders m))) i) lo)
-      (sym (cond-true (frontal i) (get_or orders i.order None) (m.find i) lo))
-      (put_low lo within)
+      (found ∙ sym (cond-true (frontal i) (get_or orders i.order None) (m.find i) lo))
+      (ap (λ o. front_names o m) made ∙ put_low lo within)
 
   module _ (high : frontal i ≡ false) where
     find_high : (front_names orders m).find i ≡ m.find i
@@ -77,9 +77,6 @@ module _ (orders : List (Option ℕ)) (m : Names Ident ℕ) (i : Ident) (n : ℕ
         let count : (front_names orders (put same_ident m i n)).count ≡ (put same_ident (front_names orders m) i n).count = omega (arith, here) in
         λ j. names (fun_ext find j) (count j)
 
-    clear_put : Clear m → Clear (put same_ident m i n)
-    clear_put clear j lo = cond-false (same_ident j i) (Some n) (m.find j) (apart i j high lo) ∙ clear j lo
-
     module _ (clear : Clear m) (roomy : ℕ → Kept Ident → Ident → Bool) (size : ℕ) where
       -- room below is room
       pub room_passed : roomy size (kept m) i ≡ front_room roomy size (kept (front_names orders m)) i
@@ -91,14 +88,6 @@ module _ (orders : List (Option ℕ)) (m : Names Ident ℕ) (i : Ident) (n : ℕ
         answers = e.answers ∙ (λ j. cond (room_passed j) (Ok (sym find_high j)) (Err refusal));
         leaves = ap (front_names orders) e.leaves ∙ cond_map (front_names orders) (roomy size (kept m) i) (put same_ident m i n) m ∙ (λ j. cond (room_passed j) (put-high j) (front_names orders m));
       }
-
-      -- what lies below stays clear
-      pub clear_after : {E : Type 0} (refusal : E) (after : Names Ident ℕ) (r : Result (Option ℕ) E) → Entered same_ident (roomy size (kept m) i) i n refusal m after r → Clear after
-      clear_after refusal after r e =
-          ⊎_elim
-          (λ t. subst Clear (sym (e.leaves ∙ cond-true (roomy size (kept m) i) (put same_ident m i n) m t)) (clear_put clear))
-          (λ f. subst Clear (sym (e.leaves ∙ cond-false (roomy size (kept m) i) (put same_ident m i n) m f)) clear)
-          (cases_Bool (roomy size (kept m) i))
 
 -- a front whose places are empty, over an index that holds nothing, holds nothing
 pub front-empty : (orders : List (Option ℕ)) (m : Names Ident ℕ) → ((o : ℕ) → o < 4096 → get_or orders o None ≡ None) → m ≡ nothing → front_names orders m ≡ nothing
