@@ -10,7 +10,7 @@ use Rattle.fraction.specs.Bounds.{fits}
 use Rattle.fraction.specs.Ratios.{Ratio, Same, Reduced, with_sign}
 use Rattle.fraction.specs.Fractions.{bounded, lowest}
 use Rattle.fraction.specs.Laws.{Lowest}
-use Rattle.fraction.proofs.Gcd.{gcd_by-divides, gcd_by-greatest, gcd-pos, den_pos, gcd-over, divides_other}
+use Rattle.fraction.proofs.Gcd.{gcd-is, gcd-pos, den_pos, gcd-over, divides_other}
 use Rattle.fraction.proofs.Rational.{same_up, same_down, same_from, same_trans}
 
 pub size_sign : (z : ℤ) (n : ℕ) → nat_abs (with_sign z n) ≡ n
@@ -39,12 +39,12 @@ module _ (z : ℤ) (d : ℕ) (h : 0 < d) where
   over = record { numer = with_sign z (size / gcd size d); denom = d / gcd size d }
 
   swapped : size / gcd size d * d ≡ size * (d / gcd size d)
-  swapped = let v = gcd_by-divides d size d (omega arith) in swap size d (gcd size d) v.0 v.1
+  swapped = let v = gcd-is size d in swap size d (gcd size d) v.0 v.1
 
   over_low : Reduced over
   over_low = record {
     positive = den_pos size d h;
-    apart = λ k p q. eq-one_of_dvd-one (subst (λ n. k ∣ n) (gcd-over size d h) (gcd_by-greatest (d / gcd size d) (size / gcd size d) (d / gcd size d) k (omega arith) (subst (λ n. k ∣ n) (size_sign z (size / gcd size d)) p) q));
+    apart = λ k p q. eq-one_of_dvd-one (subst (λ n. k ∣ n) (gcd-over size d h) ((gcd-is (size / gcd size d) (d / gcd size d)).2 k (subst (λ n. k ∣ n) (size_sign z (size / gcd size d)) p) q));
   }
 
 signed_same : (z : ℤ) (n d b : ℕ) → n * d ≡ nat_abs z * b → Same (record { numer = with_sign z n; denom = b }) (record { numer = z; denom = d })
@@ -108,7 +108,7 @@ module _ (s b n d : ℕ) (h : 0 < d) (k : 0 < b) (e : s * d ≡ n * b) (apart : 
 
   smaller : s * B ≡ A * b
   smaller =
-      let v = gcd_by-divides d n d (omega arith) in
+      let v = gcd-is n d in
       let cut = div-mul_cancel g v.0 in
       let cut' = div-mul_cancel g v.1 in
       eq_of_mul-eq-mul_right g (gcd-pos n d h) (s * B) (A * b) (regroup s B g ∙ ap (λ x. s * x) cut' ∙ e ∙ ap (λ x. x * b) (sym cut) ∙ sym (regroup' A b g))
@@ -135,7 +135,7 @@ lowest-only p f h l =
     let a = f.numer in
     let b = f.denom in
     let s = nat_abs a in
-    let v = gcd_by-divides b s b (omega arith) in
+    let v = gcd-is s b in
     let apart : gcd s b ≡ 1 = l.low.apart (gcd s b) v.0 v.1 in
     let eA = numers s b (nat_abs z) d h l.low.positive (sizes f p l.same) apart in
     let eB = denoms s b (nat_abs z) d h l.low.positive (sizes f p l.same) apart in
