@@ -9,7 +9,7 @@ use Rattle.arith.specs.declared.Operator.TheVariants.{Sum, Difference, Product, 
 use Rattle.arith.specs.Values.{Read, Tally, none, digit, digits_after, literal_of, sign_of, value_at, bracket, arguments, combine, counted, fold_in, at_close, then, worked}
 use Rattle.arith.specs.Expressions.{Figure, Numeral, figure, more, amount_of, spelled, Many, sums, products, symbol, Expr, numeral, many, opposite, less, divided, Args, only, also, written, listed, nesting, nesting_all, join, worth, worth_all, Is, Stays, StaysAll}
 use Rattle.arith.specs.Laws.{Clear, Ends}
-use Rattle.arith.proofs.Steps.{value_digit}
+use Rattle.arith.proofs.Steps.{digits_stop, value_digit}
 use Rattle.arith.proofs.Worths.{join-needs, less_needs, over_needs, opposite_is, is-lowest}
 
 -- ---- numerals
@@ -29,10 +29,6 @@ digits_take (more n c) w =
   where
     amount : (m a : ℕ) → m * 10 + (48 + a - 48) ≡ m * 10 + a
     amount m a = omega arith
-
-digits_stop : (n : ℕ) (w : List ℕ) → Clear w → digits_after n w ≡ (n, w)
-digits_stop n [] c = refl
-digits_stop n (b ∷ bs) c = cond-false (digit b) _ _ c
 
 starts : (n : Numeral) (w : List ℕ) → (0 < length (spelled n ++ w)) × (digit (get_or (spelled n ++ w) 0 0) ≡ true)
 starts (figure c) w = (omega arith, figure_digit c)

@@ -68,7 +68,7 @@ over_gives (Some p) None x y f a b e = absurd b
 over_gives (Some p) (Some q) x y f a b e = by (eqb (nat_abs y.numer) 0) refl e
   where
     by : (t : Bool) → eqb (nat_abs y.numer) 0 ≡ t → cond t (Err ZeroDivisor) (lowest (quotient x y)) ≡ Ok f → Is (both quotient (Some p) (nonzero (Some q))) f
-    by true z h = let w : ◌≡◌ {A = ℕ} 0 1 = cc in absurd (omega arith)
+    by true z h = absurd (cc)
     by false z h =
         let m = some_size (nat_abs y.numer) z in
         let n = nonzero-same y q b.0 m b.1.same in

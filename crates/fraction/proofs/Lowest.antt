@@ -21,15 +21,11 @@ size_sign (negsuc _) (suc n) = refl
 -- ---- what is given
 given_out : (z : ℤ) (n d : ℕ) (f : Ratio) (t : Bool) → fits n d ≡ t → cond t (Ok (record { numer = with_sign z n; denom = d })) (Err TooLarge) ≡ Ok f → (fits n d ≡ true) × (record { numer = with_sign z n; denom = d } ≡ f)
 given_out z n d f true e h = (e, cc)
-given_out z n d f false e h = let z : ◌≡◌ {A = ℕ} 0 1 = cc in absurd (omega arith)
+given_out z n d f false e h = absurd (cc)
 
 -- (n / g) * d is n * (d / g) if g divides both
 swap : (n d g : ℕ) → g ∣ n → g ∣ d → n / g * d ≡ n * (d / g)
-swap n d g p q =
-    ap (λ x. n / g * x) (sym (div-mul_cancel g q)) ∙ regroup (n / g) (d / g) g ∙ ap (λ x. x * (d / g)) (div-mul_cancel g p)
-  where
-    regroup : (a b g : ℕ) → a * (b * g) ≡ a * g * b
-    regroup a b g = omega arith
+swap n d g p q = omega (arith, ap (λ x. n / g * x) (div-mul_cancel g q), ap (λ x. x * (d / g)) (div-mul_cancel g p))
 
 module _ (z : ℤ) (d : ℕ) (h : 0 < d) where
   abbrev size : ℕ
@@ -69,30 +65,12 @@ size_parts (pos n) = omega arith
 size_parts (negsuc n) = omega arith
 
 sizes : (p q : Ratio) → Same p q → nat_abs p.numer * q.denom ≡ nat_abs q.numer * p.denom
-sizes p q e =
-    ap (λ n. n * q.denom) (size_parts p.numer)
-    ∙ both (up p.numer) (down p.numer) q.denom (up q.numer) (down q.numer) p.denom (same_up p q e) (same_down p q e)
-    ∙ ap (λ n. n * p.denom) (sym (size_parts q.numer))
-  where
-    both : (u v d x y b : ℕ) → u * d ≡ x * b → v * d ≡ y * b → (u + v) * d ≡ (x + y) * b
-    both u v d x y b e f = omega arith
+sizes p q e = omega (arith, ap (λ n. n * q.denom) (size_parts p.numer), ap (λ n. n * p.denom) (size_parts q.numer), same_up p q e, same_down p q e)
 
 sign_kept : (z a : ℤ) (d b : ℕ) → 0 < d → 0 < b → up a * d ≡ up z * b → down a * d ≡ down z * b → with_sign z (nat_abs a) ≡ a
 sign_kept (pos n) (pos m) d b h k u v = refl
-sign_kept (pos n) (negsuc m) d b h k u v = absurd (apart (mul-pos (positive m) h))
-  where
-    positive : (n : ℕ) → 0 < suc n
-    positive n = omega arith
-
-    apart : 0 < suc m * d → ⊥
-    apart t = omega arith
-sign_kept (negsuc n) (pos m) d b h k u v = absurd (apart (mul-pos (positive n) k))
-  where
-    positive : (n : ℕ) → 0 < suc n
-    positive n = omega arith
-
-    apart : 0 < suc n * b → ⊥
-    apart t = omega arith
+sign_kept (pos n) (negsuc m) d b h k u v = let some : 0 < suc m * d = mul-pos (omega arith) h in absurd (omega arith)
+sign_kept (negsuc n) (pos m) d b h k u v = let some : 0 < suc n * b = mul-pos (omega arith) k in absurd (omega arith)
 sign_kept (negsuc n) (negsuc m) d b h k u v = refl
 
 -- two fractions in lowest terms that are one number have one numerator's size and one denominator
@@ -111,13 +89,7 @@ module _ (s b n d : ℕ) (h : 0 < d) (k : 0 < b) (e : s * d ≡ n * b) (apart : 
       let v = gcd-is n d in
       let cut = div-mul_cancel g v.0 in
       let cut' = div-mul_cancel g v.1 in
-      eq_of_mul-eq-mul_right g (gcd-pos n d h) (s * B) (A * b) (regroup s B g ∙ ap (λ x. s * x) cut' ∙ e ∙ ap (λ x. x * b) (sym cut) ∙ sym (regroup' A b g))
-    where
-      regroup : (x y z : ℕ) → x * y * z ≡ x * (y * z)
-      regroup x y z = omega arith
-
-      regroup' : (x y z : ℕ) → x * y * z ≡ x * z * y
-      regroup' x y z = omega arith
+      eq_of_mul-eq-mul_right g (gcd-pos n d h) (s * B) (A * b) (omega (arith, ap (λ x. s * x) cut', e, ap (λ x. x * b) cut))
 
   denoms : b ≡ B
   denoms =
