@@ -1,9 +1,10 @@
 -- A cut joined again, and what was joined cut: texts at a byte, and fields at dots. Assumes nothing.
 use Rattle.std.proofs.Common.{◌≡◌, ℕ, ◌<◌, Bool, true, not, eqb, List, [], ◌∷◌, ◌++◌, length, Some, None, Option, sym, refl, ap, ◌∙◌, ⊎_elim, arith}
+use Rattle.std.specs.List.{onto_first}
 use Rattle.std.proofs.lemmas.List.{append-nil}
 use Rattle.std.proofs.lemmas.Bool.{and_parts, not-true, eq-eqb, ne_eqb, cond-true, cond-false, cases_eq}
 use Rattle.version.specs.Grammar.{every, dotted, marked}
-use Rattle.version.specs.Reader.{cut_at, longer_front, fields, fields_of, longer_field}
+use Rattle.version.specs.Reader.{cut_at, longer_front, fields, fields_of}
 use Rattle.version.proofs.FieldCuts.{fields-cut}
 
 -- the byte m and the text after it, or nothing
@@ -37,7 +38,7 @@ dotted-next : (ts : List (List ℕ)) → 0 < length ts → dotted ([] ∷ ts) �
 dotted-next [] h = absurd (omega arith)
 dotted-next (t ∷ ts) h = refl
 
-dotted-longer : (b : ℕ) (ts : List (List ℕ)) → 0 < length ts → dotted (longer_field b ts) ≡ b ∷ dotted ts
+dotted-longer : (b : ℕ) (ts : List (List ℕ)) → 0 < length ts → dotted (onto_first b ts) ≡ b ∷ dotted ts
 dotted-longer b [] h = absurd (omega arith)
 dotted-longer b (t ∷ []) h = refl
 dotted-longer b (t ∷ u ∷ us) h = refl
@@ -45,8 +46,8 @@ dotted-longer b (t ∷ u ∷ us) h = refl
 pub dotted-fields : (t : List ℕ) → dotted (fields t) ≡ t
 dotted-fields [] = refl
 dotted-fields (b ∷ bs) = ⊎_elim
-    (λ e. ap dotted (cond-true (eqb b 46) ([] ∷ fields bs) (longer_field b (fields bs)) (eq-eqb b 46 e)) ∙ (dotted-next (fields bs) (fields-length bs) ∙ (λ i. sym e i ∷ dotted-fields bs i)))
-    (λ n. ap dotted (cond-false (eqb b 46) ([] ∷ fields bs) (longer_field b (fields bs)) (ne_eqb b 46 n)) ∙ (dotted-longer b (fields bs) (fields-length bs) ∙ ap (λ r. b ∷ r) (dotted-fields bs)))
+    (λ e. ap dotted (cond-true (eqb b 46) ([] ∷ fields bs) (onto_first b (fields bs)) (eq-eqb b 46 e)) ∙ (dotted-next (fields bs) (fields-length bs) ∙ (λ i. sym e i ∷ dotted-fields bs i)))
+    (λ n. ap dotted (cond-false (eqb b 46) ([] ∷ fields bs) (onto_first b (fields bs)) (ne_eqb b 46 n)) ∙ (dotted-longer b (fields bs) (fields-length bs) ∙ ap (λ r. b ∷ r) (dotted-fields bs)))
     (cases_eq b 46)
 
 marked-some : (m : ℕ) (ts : List (List ℕ)) → 0 < length ts → marked m ts ≡ m ∷ dotted ts

@@ -9,5 +9,5 @@ pub mod Joins
 pub mod Identifiers
 pub mod CoreLaw
 pub mod Whole
-pub mod Compare
+pub mod Ranked
 pub mod Lawful

@@ -10,8 +10,8 @@ pub returns : goal.returns
 returns c =
     let one = c.args.a.now in
     let two = c.args.b.now in
-    let p : Some c.by_precedence.result ≡ compared one two =
-    ap Some c.by_precedence.ensures ∙ (λ i. then (c.in_ok-v.ensures.told i) (λ v. option_map (by_precedence v) (c.in_ok-w.ensures.told i))) in
+    let p : Some c.precedence.result ≡ compared one two =
+    ap Some c.precedence.ensures ∙ (λ i. then (c.in_ok-v.ensures.told i) (λ v. option_map (by_precedence v) (c.in_ok-w.ensures.told i))) in
     record { told = p; tells = subst (TellsPrecedence one two) (sym p) (tells_precedence one two) }
 
 pub returns-in_err-v : goal.returns-in_err-v

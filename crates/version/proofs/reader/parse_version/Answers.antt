@@ -1,8 +1,6 @@
-use Rattle.std.proofs.Common.{◌≡◌, true, Some, None, sym, ap, ◌∙◌}
+use Rattle.std.proofs.Common.{◌≡◌, Some, None, sym, ap, ◌∙◌}
 use Rattle.std.specs.Option.{option_map}
-use Rattle.std.proofs.lemmas.Option.{MatchOption-from_none}
-use Rattle.version.specs.Grammar.{every}
-use Rattle.version.specs.Reader.{assembled, released, fields_in}
+use Rattle.version.specs.Reader.{assembled}
 use Rattle.version.specs.View.{three, seen}
 use Rattle.version.proofs.Parts.{parts_told, assembled-yes, assembled-no_pre, assembled-no_build}
 use Rattle.version.proofs.Whole.{tells_same}
@@ -18,7 +16,6 @@ returns c =
     record {
       told = sym p;
       tells = tells_same c.args.text.now _ p;
-      proper = sym c.if-not-takes_all.ensures;
     }
 
 pub returns-in_err-core : goal.returns-in_err-core
@@ -30,7 +27,6 @@ returns-in_err-core c =
     record {
       told = sym p;
       tells = tells_same c.args.text.now _ p;
-      proper = MatchOption-from_none c.from_residual.result (λ v. every released (fields_in v.pre) ≡ true) c.from_residual.ensures;
     }
 
 pub returns-then-not-takes_all : goal.returns-then-not-takes_all
@@ -44,4 +40,4 @@ returns-then-not-takes_all c =
       | then-not-takes_all-via-then-not-takes_all w ↦ assembled-no_pre core before after (sym w.if-not-takes_all.ensures)
       | then-not-takes_all-via-else-not-takes_all+then-not-takes_all-2 w ↦ assembled-no_build core before after (sym w.if-not-takes_all-2.ensures)
     ] in
-    record { told = sym (e ∙ refused); tells = tells_same c.args.text.now _ (e ∙ refused); proper = tt }
+    record { told = sym (e ∙ refused); tells = tells_same c.args.text.now _ (e ∙ refused) }
