@@ -9,7 +9,7 @@ use Rattle.lines.specs.declared.LineMode.TheVariants.{Joined, EachLine}
 use Rattle.lines.specs.Lines.{is_lf, held, longer, ended, piece, front, up_next, blank, begins, ends, opens, trimmed, onto, joined_lines, lines_of}
 use Rattle.lines.specs.Laws.{unended, written, Plain, ends_here, GoesOn, CutInto, LinesStand}
 use Rattle.lines.proofs.Cut.{front-more, nothing-ended, piece-held}
-use Rattle.lines.proofs.Joining.{trim_append}
+use Rattle.lines.proofs.Joining.{trim_after}
 
 -- the physical lines and the last piece are the bytes, and hold no LF
 longer-written : (b : ℕ) (bs : List ℕ) (f : List ℕ) (ps : List (List ℕ)) → written ps ++ f ≡ bs → written (longer b ps) ++ cond (held ps) f (b ∷ bs) ≡ b ∷ bs
@@ -139,10 +139,6 @@ goes_on_more p l ys h f g xs zs e = ⊎_elim
     (λ q. ap (λ x. ends_here x (zs ++ ys)) q.0 ∙ ap (λ z. ends_here p (z ++ ys)) q.1 ∙ f)
     (λ q. ap (λ x. ends_here x (zs ++ ys)) q.1 ∙ after_lf p q.0 (zs ++ ys) ∙ g q.0 zs q.2)
     (split p l xs zs h e)
-
-trim_after : (p l : List ℕ) → (p ++ 10 ∷ []) ++ trimmed l ≡ trimmed (p ++ 10 ∷ l)
-trim_after p [] = append-nil (p ++ 10 ∷ []) ∙ sym (trim_append p (10 ∷ []) (omega arith))
-trim_after p (c ∷ cs) = sym (trim_append (p ++ 10 ∷ []) (c ∷ cs) (omega arith)) ∙ ap trimmed (append_assoc p (10 ∷ []) (c ∷ cs))
 
 -- a physical line that does not end its line
 cut_onto : (p r : List ℕ) (ls : List (List ℕ)) → Plain p → ends_here p r ≡ false → CutInto r ls → CutInto (p ++ 10 ∷ r) (onto (p ++ 10 ∷ []) ls)
