@@ -14,17 +14,11 @@ use Rattle.lines.proofs.Joining.{trim_after}
 -- the physical lines and the last piece are the bytes, and hold no LF
 longer-written : (b : ℕ) (bs : List ℕ) (f : List ℕ) (ps : List (List ℕ)) → written ps ++ f ≡ bs → written (longer b ps) ++ cond (held ps) f (b ∷ bs) ≡ b ∷ bs
 longer-written b bs f [] e = refl
-longer-written b bs f (p ∷ ps) e = ap (λ x. b ∷ x) e
+longer-written b bs f (p ∷ ps) e = cc
 
 pub all_bytes : (bs : List ℕ) → written (ended bs) ++ piece bs ≡ bs
 all_bytes [] = refl
-all_bytes (b ∷ bs) =
-    let P : Bool → Type 0 = λ t. is_lf b ≡ t → written (cond t ([] ∷ ended bs) (longer b (ended bs))) ++ cond (t || held (ended bs)) (piece bs) (b ∷ bs) ≡ b ∷ bs in
-    let at : (t : Bool) → P t = λ t. elim t as P [
-      | true ↦ λ e. ap (λ x. 10 ∷ x) (all_bytes bs) ∙ ap (λ x. x ∷ bs) (sym (eqb-true b 10 e))
-      | false ↦ λ e. longer-written b bs (piece bs) (ended bs) (all_bytes bs)
-    ] in
-    at (is_lf b) refl
+all_bytes (b ∷ bs) = grind (arith, all_bytes bs, longer-written b bs (piece bs) (ended bs))
 
 longer-plain : (b : ℕ) → is_lf b ≡ false → (ps : List (List ℕ)) → AllByRecursion Plain ps → AllByRecursion Plain (longer b ps)
 longer-plain b e [] h = tt
@@ -32,23 +26,11 @@ longer-plain b e (p ∷ ps) h = ((e, h.0), h.1)
 
 pub ended-plain : (bs : List ℕ) → AllByRecursion Plain (ended bs)
 ended-plain [] = tt
-ended-plain (b ∷ bs) =
-    let P : Bool → Type 0 = λ t. is_lf b ≡ t → AllByRecursion Plain (cond t ([] ∷ ended bs) (longer b (ended bs))) in
-    let at : (t : Bool) → P t = λ t. elim t as P [
-      | true ↦ λ e. (tt, ended-plain bs)
-      | false ↦ λ e. longer-plain b e (ended bs) (ended-plain bs)
-    ] in
-    at (is_lf b) refl
+ended-plain (b ∷ bs) = grind (arith, ended-plain bs, longer-plain)
 
 pub piece-plain : (bs : List ℕ) → Plain (piece bs)
 piece-plain [] = tt
-piece-plain (b ∷ bs) =
-    let P : Bool → Type 0 = λ t. (is_lf b || held (ended bs)) ≡ t → Plain (cond t (piece bs) (b ∷ bs)) in
-    let at : (t : Bool) → P t = λ t. elim t as P [
-      | true ↦ λ e. piece-plain bs
-      | false ↦ λ e. let k = or_parts (is_lf b) (held (ended bs)) e in (k.0, subst Plain (nothing-ended bs k.1) (piece-plain bs))
-    ] in
-    at (is_lf b || held (ended bs)) refl
+piece-plain (b ∷ bs) = grind (arith, piece-plain bs, nothing-ended bs)
 
 -- `EachLine`
 written-append : (ps qs : List (List ℕ)) → written (ps ++ qs) ≡ written ps ++ written qs
