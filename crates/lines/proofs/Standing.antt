@@ -35,18 +35,14 @@ piece-plain (b ∷ bs) = grind (arith, piece-plain bs, nothing-ended bs)
 -- `EachLine`
 written-append : (ps qs : List (List ℕ)) → written (ps ++ qs) ≡ written ps ++ written qs
 written-append [] qs = refl
-written-append (p ∷ ps) qs = ap (λ x. p ++ 10 ∷ x) (written-append ps qs) ∙ sym (append_assoc p (10 ∷ written ps) (written qs))
+written-append (p ∷ ps) qs = grind (arith, written-append ps qs, append_assoc p (10 ∷ written ps) (written qs))
 
 last_written : (ps : List (List ℕ)) (f : List ℕ) → written ps ++ written (cond (held f) (f ∷ []) []) ≡ (written ps ++ f) ++ cond (held f) (10 ∷ []) []
-last_written ps [] = sym (append-nil (written ps ++ []))
-last_written ps (c ∷ cs) = sym (append_assoc (written ps) (c ∷ cs) (10 ∷ []))
+last_written ps [] = grind (arith, append-nil)
+last_written ps (c ∷ cs) = grind (arith, append_assoc)
 
 each_written : (bs : List ℕ) → written (lines_of EachLine bs) ≡ bs ++ cond (unended bs) (10 ∷ []) []
-each_written bs =
-    written-append (ended bs) (cond (held (piece bs)) (piece bs ∷ []) [])
-    ∙ last_written (ended bs) (piece bs)
-    ∙ ap (λ x. x ++ cond (held (piece bs)) (10 ∷ []) []) (all_bytes bs)
-    ∙ ap (λ t. bs ++ cond t (10 ∷ []) []) (piece-held bs)
+each_written bs = grind (arith, written-append (ended bs), last_written (ended bs) (piece bs), all_bytes bs, piece-held bs)
 
 last_plain : (f : List ℕ) → Plain f → AllByRecursion Plain (cond (held f) (f ∷ []) [])
 last_plain [] h = tt
@@ -58,23 +54,23 @@ each_plain bs = All-append Plain (ended bs) (cond (held (piece bs)) (piece bs �
 -- a physical line at the front of bytes
 plain_front : (p r : List ℕ) → Plain p → front (p ++ 10 ∷ r) ≡ p
 plain_front [] r h = refl
-plain_front (b ∷ p) r h = front-more b (p ++ 10 ∷ r) h.0 ∙ ap (λ x. b ∷ x) (plain_front p r h.1)
+plain_front (b ∷ p) r h = grind (arith, front-more, plain_front p r h.1)
 
 plain_all : (f : List ℕ) → Plain f → front f ≡ f
 plain_all [] h = refl
-plain_all (b ∷ f) h = front-more b f h.0 ∙ ap (λ x. b ∷ x) (plain_all f h.1)
+plain_all (b ∷ f) h = grind (arith, front-more, plain_all f h.1)
 
 next_front : (ps : List (List ℕ)) (f : List ℕ) → AllByRecursion Plain ps → Plain f → front (written ps ++ f) ≡ up_next ps f
 next_front [] f hs h = plain_all f h
-next_front (p ∷ ps) f hs h = ap front (append_assoc p (10 ∷ written ps) f) ∙ plain_front p (written ps ++ f) hs.0
+next_front (p ∷ ps) f hs h = grind (arith, append_assoc, plain_front p)
 
 -- what stands after the last LF
 plain_ended : (p : List ℕ) → Plain p → ended p ≡ []
 plain_ended [] h = refl
-plain_ended (b ∷ p) h = ap (λ t. cond t ([] ∷ ended p) (longer b (ended p))) h.0 ∙ ap (longer b) (plain_ended p h.1)
+plain_ended (b ∷ p) h = grind (arith, plain_ended p h.1)
 
 plain_piece : (p : List ℕ) → Plain p → piece p ≡ p
-plain_piece p h = nothing-ended p (ap held (plain_ended p h))
+plain_piece p h = grind (arith, nothing-ended p, plain_ended p h)
 
 held-longer : (b : ℕ) (ps : List (List ℕ)) → held (longer b ps) ≡ held ps
 held-longer b [] = refl
@@ -82,15 +78,11 @@ held-longer b (p ∷ ps) = refl
 
 held-ended : (p r : List ℕ) → held (ended (p ++ 10 ∷ r)) ≡ true
 held-ended [] r = refl
-held-ended (b ∷ p) r =
-    let P : Bool → Type 0 = λ t. held (cond t ([] ∷ ended (p ++ 10 ∷ r)) (longer b (ended (p ++ 10 ∷ r)))) ≡ true in
-    elim (is_lf b) as P [ true ↦ refl | false ↦ held-longer b (ended (p ++ 10 ∷ r)) ∙ held-ended p r ]
+held-ended (b ∷ p) r = grind (arith, held-ended p r, held-longer)
 
 piece-after : (p r : List ℕ) → piece (p ++ 10 ∷ r) ≡ piece r
 piece-after [] r = refl
-piece-after (b ∷ p) r =
-    ap (λ t. cond t (piece (p ++ 10 ∷ r)) (b ∷ (p ++ 10 ∷ r))) (or_right (is_lf b) (held (ended (p ++ 10 ∷ r))) (held-ended p r))
-    ∙ piece-after p r
+piece-after (b ∷ p) r = grind (arith, piece-after p r, held-ended p r)
 
 -- an LF in p, an LF and r, where p has none: it is that one, or one of r
 split : (p r xs ys : List ℕ) → Plain p → p ++ 10 ∷ r ≡ xs ++ 10 ∷ ys →
@@ -154,26 +146,23 @@ joined bs = subst (λ x. CutInto x (lines_of Joined bs)) (all_bytes bs) (joined_
 
 -- how many lines there are
 written-long : (ps : List (List ℕ)) → length ps ≤ length (written ps)
-written-long [] = omega arith
-written-long (p ∷ ps) = simp length-append (omega (arith, written-long ps))
+written-long [] = grind arith
+written-long (p ∷ ps) = grind (arith, written-long ps, length-append {A = ℕ})
 
 onto-long : (xs : List ℕ) (ls : List (List ℕ)) → length (onto xs ls) ≡ length ls
 onto-long xs [] = refl
 onto-long xs (l ∷ ls) = refl
 
 joined_few : (ps : List (List ℕ)) (f : List ℕ) → length (joined_lines ps f) ≤ length ps
-joined_few [] f = omega arith
-joined_few (p ∷ ps) f =
-    let P : Bool → Type 0 = λ t. length (cond t (trimmed p ∷ joined_lines ps f) (onto (p ++ 10 ∷ []) (joined_lines ps f))) ≤ suc (length ps) in
-    elim (ends p (up_next ps f)) as P [ true ↦ omega (arith, joined_few ps f) | false ↦ omega (arith, joined_few ps f, onto-long (p ++ 10 ∷ []) (joined_lines ps f)) ]
+joined_few [] f = grind arith
+joined_few (p ∷ ps) f = grind (arith, joined_few ps f, onto-long)
 
 last_few : (f : List ℕ) → length (cond (held f) (f ∷ []) []) ≤ length f
 last_few [] = omega arith
 last_few (c ∷ cs) = omega arith
 
 pub few : (m : LineMode) (bs : List ℕ) → length (lines_of m bs) ≤ length bs
-few Joined bs = omega (arith, joined_few (ended bs) (piece bs), written-long (ended bs), simp length-append at (ap length (all_bytes bs)))
-few EachLine bs = simp length-append (omega (arith, last_few (piece bs), written-long (ended bs), simp length-append at (ap length (all_bytes bs))))
+few m bs = let e = ap length (all_bytes bs) in grind (arith, joined_few (ended bs) (piece bs), written-long (ended bs), last_few (piece bs), length-append {A = ℕ}, length-append {A = List ℕ})
 
 pub lines_stand : LinesStand
 lines_stand = record { each_written = each_written; each_plain = each_plain; joined = joined; cut = piece-held; few = few }
