@@ -1,15 +1,13 @@
 -- One physical line taken off the front of the bytes. Assumes nothing.
-use Rattle.std.proofs.Common.{◌≡◌, ℕ, suc, ◌+◌, ◌-◌, ◌<◌, ◌≤◌, min, Bool, true, false, cond, not, ◌&&◌, ◌||◌, eqb, List, [], ◌∷◌, length, get_or, take, drop, sym, refl, ap, ◌∙◌, ⊎_elim, le_refl, suc-add, one-add, arith}
-use native.Mathlib.Nat.{min-eq_left, min-eq_right}
+use Rattle.std.proofs.Common.{◌≡◌, ℕ, ◌+◌, ◌-◌, ◌<◌, ◌≤◌, min, Bool, false, not, ◌&&◌, eqb, List, [], ◌∷◌, length, get_or, take, drop, refl, suc-add, one-add, arith}
 use native.Mathlib.Numerals.{unary_clauses}
 use Rattle.std.proofs.lemmas.List.{take_all, drop_all}
-use Rattle.std.proofs.lemmas.Bool.{cases_lt, eqb-true, or_parts, true≢false}
 use Rattle.std.specs.List.{ends_with}
 use Rattle.std.specs.Cmp.Lexicographic.{pointwise}
 use Rattle.std.proofs.lemmas.List.Sums.{prefix_len_stops}
 use Rattle.lines.specs.declared.LineMode.{LineMode}
 use Rattle.lines.specs.declared.LineMode.TheVariants.{EachLine}
-use Rattle.lines.specs.Lines.{is_lf, held, longer, ended, piece, line_len, front, up_next, ends_in, lines_of}
+use Rattle.lines.specs.Lines.{is_lf, held, ended, piece, line_len, front, up_next, ends_in, lines_of}
 
 pub ended-cut : (xs : List ℕ) → line_len xs < length xs → ended xs ≡ front xs ∷ ended (drop (line_len xs + 1) xs)
 ended-cut [] h = absurd (omega arith)
