@@ -5,7 +5,7 @@ use Rattle.std.proofs.lemmas.List.{at_drop_more, at_drop_all}
 use Rattle.std.proofs.lemmas.Bool.{cond-true, cond-false, ne_eqb, eq-eqb, cases_Bool, cases_eq, cases_lt, lt-ltb, lt-leb, le-leb, and_from, and_parts, ltb-true, leb-true}
 use Rattle.words.specs.Words.{separates, words_of, longer, front_of}
 use Rattle.words.specs.Joined.{unwords}
-use Rattle.words.proofs.Cut.{words_count, same_longer}
+use Rattle.words.proofs.Cut.{words_count}
 
 -- the place at which the k-th word ends, byte by byte
 abbrev pub placed : ℕ → List ℕ → Option ℕ
@@ -17,6 +17,10 @@ later i o = option_map (λ e. i + e) o
 
 abbrev pub end_of : ℕ → List (List ℕ) → Option ℕ
 end_of k ws = option_map length (option_map unwords (front_of k ws))
+
+same_longer : (b : ℕ) (ws : List (List ℕ)) → 0 < length ws → length (longer b ws) ≡ length ws
+same_longer b [] h = absurd (omega arith)
+same_longer b (w ∷ ws) h = refl
 
 later_more : (i : ℕ) (o : Option ℕ) → later i (option_map suc o) ≡ later (i + 1) o
 later_more i None = refl

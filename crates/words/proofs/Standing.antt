@@ -1,5 +1,5 @@
 -- The laws of words and kinds. Assumes nothing.
-use Rattle.std.proofs.Common.{◌≡◌, ℕ, ◌<◌, false, ◌||◌, List, [], ◌∷◌, length, Some, sym, refl, ap, ◌∙◌, subst, ⊎_elim, arith}
+use Rattle.std.proofs.Common.{◌≡◌, ℕ, ◌<◌, false, ◌||◌, List, [], ◌∷◌, length, Some, find, sym, refl, ap, ◌∙◌, subst, ⊎_elim, arith}
 use Rattle.std.specs.List.{AllByRecursion}
 use Rattle.std.specs.Str.{bytes_eq}
 use Rattle.std.proofs.lemmas.Slice.Eq.{bytes_eq-Decides}
@@ -8,7 +8,7 @@ use Rattle.words.specs.declared.kind.LineKind.{LineKind}
 use Rattle.words.specs.declared.kind.LineKind.TheVariants.{ToolVersion, MkQuant, MkVar, MkApp, AttachMeaning, AttachVarNames, Eof, MkLambda, MkProof, AttachEnode, EqExpl, NewMatch, InstDiscovered, Instance, EndOfInstance, DecideAndOr, Decide, Assign, Push, Pop, BeginCheck, QueryDone, ResolveProcess, ResolveLit, Conflict}
 use Rattle.words.specs.Words.{separates, words_of, longer, broken}
 use Rattle.words.specs.Joined.{WordsApart}
-use Rattle.words.specs.Kinds.{text_of, kind_among, kind_of, kinds, KindsByText}
+use Rattle.words.specs.Kinds.{text_of, kind_of, kinds, KindsByText}
 use Rattle.words.proofs.Cut.{words_count}
 use Rattle.words.proofs.Spans.{words_sep, words_in_lem}
 use Rattle.words.proofs.Bytes.{spaces-words}
@@ -27,7 +27,7 @@ all_whole (b ∷ bs) = ⊎_elim
 pub words_apart : WordsApart
 words_apart = record { whole = all_whole; back = λ s. sym (spaces-words s) }
 
-among_exact : (w : List ℕ) (ks : List LineKind) (k : LineKind) → kind_among w ks ≡ Some k → w ≡ text_of k
+among_exact : (w : List ℕ) (ks : List LineKind) (k : LineKind) → find (λ j. bytes_eq w (text_of j)) ks ≡ Some k → w ≡ text_of k
 among_exact w [] k e = let z : ◌≡◌ {A = ℕ} 0 1 = cc in absurd (omega arith)
 among_exact w (j ∷ ks) k e = ⊎_elim
     (λ t. let same : Some j ≡ Some k = sym (cond-true (bytes_eq w (text_of j)) _ _ t) ∙ e in let is : j ≡ k = cc in (bytes_eq-Decides w (text_of j)).0 t ∙ ap text_of is)

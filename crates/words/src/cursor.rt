@@ -1,28 +1,16 @@
 // A cursor over the words of a line. The words are parts of the line.
 ghost use Rattle.std.specs.Prelude.{◌≡◌, ℕ, ◌+◌, ◌^◌, ◌<◌, ◌≤◌, not, length, drop, is_some, IfSome, if◌then◌else◌};
 ghost use Rattle.std.specs.Option.{option_map};
-ghost use Rattle.std.specs.List.{prefix_len};
 ghost use Rattle.words.specs.Joined.{WordsApart, unwords};
 ghost use Rattle.words.specs.Words.{separates, words_of, ahead, first_of, rest_of, front_of, size_left};
+
+mod next;
 
 // Space, tab, LF, FF and CR separate words.
 pub fn is_separator(b: u8) -> bool
     ensures { result ≡ separates b }
 {
     matches!(b, b' ' | b'\t' | b'\n' | 0x0c | b'\r')
-}
-
-// How many bytes stand before the first separator.
-fn word_end(s: &[u8]) -> usize
-    ensures value { result ≡ prefix_len (λ b. not (separates b)) s.now }
-    ensures bound { result ≤ length s.now }
-{
-    for (i, b) in s.iter().enumerate() {
-        if is_separator(*b) {
-            return i;
-        }
-    }
-    s.len()
 }
 
 // Where the first `count` words of `s` end: none where it has fewer, and for no words.
@@ -46,13 +34,7 @@ fn span_end(s: &[u8], count: usize) -> Option<usize>
 fn count_words(s: &[u8]) -> usize
     ensures { result ≡ length (words_of s.now) }
 {
-    let mut separators: usize = 0;
-    for b in s {
-        if is_separator(*b) {
-            separators += 1;
-        }
-    }
-    separators + 1
+    s.iter().filter(|b| is_separator(**b)).count() + 1
 }
 
 // What is left of a line, and the number of the word that comes next.
@@ -92,22 +74,6 @@ impl<'a> Words<'a> {
             None => self.number,
             Some(s) => self.number + count_words(s),
         }
-    }
-
-    pub fn next(&mut self) -> Option<&'a [u8]>
-        ensures word { option_map (λ x. x.now) result ≡ first_of (ahead self.old.left) }
-        ensures rest { ahead self.new.left ≡ rest_of (ahead self.old.left) }
-        ensures number { self.new.number ≡ self.old.number + (if is_some result then 1 else 0) }
-    {
-        let line = self.left?;
-        let end = word_end(line);
-        self.number += 1;
-        if end == line.len() {
-            self.left = None;
-            return Some(line);
-        }
-        self.left = Some(&line[end + 1..]);
-        Some(&line[0..end])
     }
 
     // The next `count` words as one span of the line, separators between them included: none, and nothing moves, where fewer are left,

@@ -60,13 +60,13 @@ fn joined_texts_have_spaces_and_bars(rt: HostRuntime) {
 
 #[test]
 fn kinds_are_exact(rt: HostRuntime) {
-    assert!(rt; matches!(LineKind::of(b"[mk-app]"), Some(LineKind::MkApp)));
-    assert!(rt; matches!(LineKind::of(b"[eof]"), Some(LineKind::Eof)));
+    assert_eq!(rt; LineKind::of(b"[mk-app]"), Some(LineKind::MkApp));
+    assert_eq!(rt; LineKind::of(b"[eof]"), Some(LineKind::Eof));
     assert!(rt; LineKind::of(b"[mk-app] ").is_none());
     assert!(rt; LineKind::of(b"[mk-ap]").is_none());
     assert!(rt; LineKind::of(b"").is_none());
     for kind in KINDS {
-        assert!(rt; LineKind::of(kind.text()).is_some());
+        assert!(rt; LineKind::of(kind.text().as_bytes()).is_some());
     }
 }
 
