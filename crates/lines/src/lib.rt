@@ -1,8 +1,8 @@
 // The lines of a trace file, one by one. The lines are parts of the file's bytes.
 #![tactic(auto)]
 
-ghost use Rattle.std.specs.Prelude.{◌≡◌, ◌≤◌, length};
-ghost use Rattle.lines.specs.Lines.{lines_of, cut_off, ahead, line_len, front, blank, opens, ends_in, trimmed, FirstEnds};
+ghost use Rattle.std.specs.Prelude.{◌≡◌, ◌<◌, ◌≤◌, length};
+ghost use Rattle.lines.specs.Lines.{lines_of, cut_off, ahead, line_len, front, blank, opens, ends_in, trimmed, ends_at, FirstEnds};
 ghost use Rattle.lines.specs.Laws.{LinesStand};
 ghost use Rattle.std.specs.Iterator.{YieldsFirstRef, item_count};
 
@@ -40,24 +40,21 @@ fn opens_line(s: &[u8]) -> bool
     s.starts_with(b"[") || starts_blank(s)
 }
 
+// Whether there is an LF at `at` that ends the first line, where no LF before it does. `alone` says that the physical line at the front is
+// blank: only the first can be, since no line goes on into a blank one.
+fn ends_at(s: &[u8], alone: bool, at: usize) -> bool
+    requires { at < length s.now }
+    ensures { result ≡ ends_at alone s.now at }
+{
+    s[at] == b'\n' && (alone || opens_line(&s[at + 1..]))
+}
+
 // How many bytes stand before the LF that ends the first line, over the LFs in names; none if no LF ends it.
-// `alone` says that the physical line at `at` is blank: only the first can be, since no line goes on into a blank one.
 fn joined_end(s: &[u8]) -> Option<usize>
     ensures { FirstEnds s.now result }
 {
-    let mut alone = starts_blank(s);
-    let mut at = 0;
-    loop {
-        let end = at + line_feed(&s[at..]);
-        if end == s.len() {
-            return None;
-        }
-        if alone || opens_line(&s[end + 1..]) {
-            return Some(end);
-        }
-        alone = false;
-        at = end + 1;
-    }
+    let alone = starts_blank(s);
+    (0..s.len()).find(|at| ends_at(s, alone, *at))
 }
 
 // The line without one CR at its end.

@@ -1,4 +1,4 @@
-use Rattle.std.proofs.Common.{◌≡◌, ℕ, ◌<◌, ◌≤◌, Bool, true, false, cond, ltb, not, List, length, Some, None, Option, ap, ◌∙◌, ⊎_elim, rules, tests, arith}
+use Rattle.std.proofs.Common.{◌≡◌, ℕ, Bool, not, List, length, ap, ◌∙◌, rules, tests, arith}
 use Rattle.std.specs.List.{position, position_or_len}
 use Rattle.std.specs.Option.{unwrap_or}
 use Rattle.std.proofs.lemmas.List.Sums.{prefix_len-le-length}

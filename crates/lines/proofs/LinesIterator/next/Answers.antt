@@ -1,4 +1,4 @@
-use Rattle.std.proofs.Common.{◌≡◌, length, ap, rules}
+use Rattle.std.proofs.Common.{length, ap, rules}
 use Rattle.std.proofs.lemmas.List.{take_rest}
 use Rattle.lines.proofs.Cut.{each_cut}
 use Rattle.lines.proofs.LinesIterator.next.Goals as goal
