@@ -1,7 +1,8 @@
 -- What is read is an expression, and the answer its number. Assumes nothing.
 use Rattle.std.proofs.Common.{◌≡◌, ℕ, zero, suc, ◌+◌, ◌-◌, ◌*◌, ◌≤◌, Bool, true, false, cond, eqb, List, [], ◌∷◌, ◌++◌, length, IfOk, Some, None, Ok, Err, Option, Result, sym, refl, ap, ◌∙◌, subst, arith}
 use Rattle.std.proofs.lemmas.List.{append_assoc}
-use Rattle.std.proofs.lemmas.Bool.{cond-true, cond-false, eqb-true, ne_eqb}
+use Rattle.std.proofs.lemmas.Bool.{cond-true, cond-false, eqb-true}
+use Rattle.std.proofs.lemmas.Bool.Decides.{nat_tests}
 use Rattle.fraction.specs.declared.FractionFault.{FractionFault}
 use Rattle.fraction.specs.Ratios.{Ratio, whole, negative}
 use Rattle.fraction.specs.Fractions.{lowest, subtract, divide}
@@ -85,12 +86,14 @@ bad_other n (Some p) q h e = refused Unreadable q e
 
 bad_quotient : (n : ℕ) (r : Option Ratio) (q : Ratio) → 3 ≤ n → at_close Quotient n r ≡ Ok q → ⊥
 bad_quotient n None q h e = refused Unreadable q e
-bad_quotient n (Some p) q h e = refused Unreadable q (sym (cond-false (eqb n 2) _ _ (ne_eqb n 2 (λ z. omega arith))) ∙ e)
+bad_quotient n (Some p) q h e = let other : eqb n 2 ≡ false = grind (arith, nat_tests) in refused Unreadable q (sym (cond-false _ _ _ other) ∙ e)
 
 bad_difference : (n : ℕ) (r : Option Ratio) (q : Ratio) → 3 ≤ n → at_close Difference n r ≡ Ok q → ⊥
 bad_difference n None q h e = refused Unreadable q e
 bad_difference n (Some p) q h e =
-    refused Unreadable q (sym (cond-false (eqb n 1) _ _ (ne_eqb n 1 (λ z. omega arith)) ∙ cond-false (eqb n 2) _ _ (ne_eqb n 2 (λ z. omega arith))) ∙ e)
+    let one : eqb n 1 ≡ false = grind (arith, nat_tests) in
+    let two : eqb n 2 ≡ false = grind (arith, nat_tests) in
+    refused Unreadable q (sym (cond-false _ _ _ one ∙ cond-false _ _ _ two) ∙ e)
 
 -- ---- what was found at the front of t: an expression, and w after it
 pub record Found (d : ℕ) (t : List ℕ) (f : Ratio) (w : List ℕ) : Type 0 where

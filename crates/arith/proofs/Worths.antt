@@ -2,7 +2,8 @@
 use Rattle.std.proofs.Common.{◌≡◌, ℕ, zero, suc, ◌*◌, ◌<◌, Bool, true, false, cond, eqb, ℤ, pos, negsuc, neg_ℤ, nat_abs, Some, None, Ok, Err, Option, sym, refl, ap, ◌∙◌, subst, mul-pos, arith}
 use Prim.Native.Nat.{◌∣◌}
 use Rattle.std.specs.Option.{option_map}
-use Rattle.std.proofs.lemmas.Bool.{cond-false, eqb-false, ne_eqb}
+use Rattle.std.proofs.lemmas.Bool.{cond-false}
+use Rattle.std.proofs.lemmas.Bool.Decides.{nat_tests}
 use Rattle.fraction.specs.declared.FractionFault.TheVariants.{ZeroDivisor}
 use Rattle.fraction.specs.Bounds.{fits}
 use Rattle.fraction.specs.Ratios.{Ratio, Same, whole, negative, difference, quotient}
@@ -53,14 +54,10 @@ less_needs = both-needs difference denoms_positive difference-same
 
 -- ---- a quotient
 some_size : (n : ℕ) → eqb n 0 ≡ false → 0 < n
-some_size zero e = absurd (eqb-false 0 0 e refl)
-some_size (suc n) e = omega arith
+some_size n e = grind (arith, nat_tests)
 
 size_some : (n : ℕ) → 0 < n → eqb n 0 ≡ false
-size_some n h = ne_eqb n 0 (λ e. apart e)
-  where
-    apart : n ≡ 0 → ⊥
-    apart e = omega arith
+size_some n h = grind (arith, nat_tests)
 
 pub over_gives : (o u : Option Ratio) (x y f : Ratio) → Is o x → Is u y → divide x y ≡ Ok f → Is (both quotient o (nonzero u)) f
 over_gives None u x y f a b e = absurd a

@@ -1,7 +1,7 @@
 // Values of the theory `arith`.
 #![tactic(auto)]
 
-ghost use Rattle.std.specs.Prelude.{◌≡◌, ℕ, ◌+◌, ◌^◌, ◌<◌, ◌≤◌, length, IfSome, IfOk, Ok, codes};
+ghost use Rattle.std.specs.Prelude.{◌≡◌, ◌+◌, ◌^◌, ◌<◌, ◌≤◌, length, IfSome, IfOk, Ok, codes};
 ghost use Rattle.std.specs.Option.{option_map};
 ghost use Rattle.fraction.specs.Fractions.{ratio};
 ghost use Rattle.fraction.specs.Ratios.{Ratio};
@@ -9,7 +9,7 @@ ghost use Rattle.arith.specs.Examples.{Examples};
 ghost use Rattle.arith.specs.Laws.{ArithStands, Denotes};
 ghost use Rattle.words.specs.Joined.{spaces};
 ghost use Rattle.arith.specs.Faults.{value_fault, value_fault_number};
-ghost use Rattle.arith.specs.Values.{arith_value, at_close, cut_at_space, digit, digits_after, fold_in, literal_of, operator_of, value_at};
+ghost use Rattle.arith.specs.Values.{arith_value, at_close, cut_at_space, digits_after, fold_in, literal_of, operator_of, value_at};
 ghost use Rattle.arith.specs.Answers.{answered, cut_in, folds, read_in};
 
 use fraction::FractionFault;
@@ -73,7 +73,7 @@ fn operator_of(name: &[u8]) -> Operator
     }
 }
 
-// The arguments so far: how many, and what they come to.
+// The arguments so far: how many, and what they come to. Not an Option of both: each argument would open it and make it again.
 #[derive(Clone, Copy)]
 struct Folded {
     count: usize,

@@ -1,5 +1,5 @@
 -- Ratios that are one number, and the arithmetic of such. Assumes nothing.
-use Rattle.std.proofs.Common.{◌≡◌, ℕ, zero, suc, ◌+◌, ◌*◌, ◌<◌, ℤ, pos, negsuc, ◌*ℤ◌, nat_abs, sym, refl, ap, ◌∙◌, mul-pos, arith}
+use Rattle.std.proofs.Common.{◌≡◌, ℕ, zero, suc, ◌+◌, ◌*◌, ◌<◌, ℤ, pos, negsuc, ◌*ℤ◌, nat_abs, sym, ap, ◌∙◌, mul-pos, arith}
 use native.Mathlib.Nat.{eq_of_mul-eq-mul_right}
 use borrow.Author.Differences.{up, down, same_in, sum_is_lem, neg_is, product_is}
 use Rattle.fraction.specs.Ratios.{Ratio, Same, sum, product, negative, difference, inverse, quotient}

@@ -1,5 +1,5 @@
 -- Whole numbers in lowest terms. Assumes nothing.
-use Rattle.std.proofs.Common.{◌≡◌, ℕ, ◌^◌, nat_le, ◌≤◌, cond, pos, Ok, Err, ap, ◌∙◌, ⊎_elim, div-one, arith}
+use Rattle.std.proofs.Common.{◌≡◌, ℕ, ◌^◌, nat_le, ◌≤◌, cond, pos, Ok, Err, ap, ◌∙◌, div-one, arith}
 use Rattle.std.proofs.lemmas.Bool.{cond-false, and_left, lt-leb}
 use Rattle.fraction.specs.declared.FractionFault.TheVariants.{TooLarge}
 use Rattle.fraction.specs.Bounds.{fits}

@@ -1,7 +1,7 @@
 // Fractions in lowest terms, and their arithmetic.
 #![tactic(auto)]
 
-ghost use Rattle.std.specs.Prelude.{◌≡◌, ℕ, ◌+◌, ◌*◌, ◌^◌, ◌<◌, ◌≤◌, pos, ◌*ℤ◌, unsigned_abs};
+ghost use Rattle.std.specs.Prelude.{◌≡◌, ◌^◌, ◌<◌, ◌*ℤ◌, unsigned_abs};
 ghost use Rattle.fraction.specs.Laws.{GreatestDivisor, LowestStands};
 ghost use Rattle.fraction.specs.Bounds.{fits};
 ghost use Rattle.fraction.specs.Divisors.{gcd};
