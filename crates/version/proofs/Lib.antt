@@ -1,4 +1,3 @@
-pub mod Runs
 pub mod FirstMark
 pub mod Values
 pub mod FieldCuts

@@ -5,8 +5,8 @@ ghost use Rattle.version.specs.Reader.{released, fields_in};
 
 use crate::number::Core;
 
-// The pre-release and the build metadata are parts of the text, without the `-` and the `+`, if they stand there. The pre-release kept
-// is one.
+// The pre-release and the build metadata are parts of the text, without the `-` and the `+`, if they stand there. `proper` says that
+// what is kept as a pre-release is one.
 #[derive(Clone, Copy)]
 pub struct Version<'a> {
     pub core: Core,

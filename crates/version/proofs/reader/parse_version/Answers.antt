@@ -12,9 +12,9 @@ returns c =
     let before = option_map (λ x. x.now) c.cut-2.result.1 in
     let after = option_map (λ x. x.now) c.cut.result.1 in
     let e = parts_told c.args.text.now c.cut.result.0.now c.cut-2.result.0.now before after (option_map three c.read_core.result) c.cut.ensures.front c.cut.ensures.rest c.cut-2.ensures.front c.cut-2.ensures.rest c.read_core.ensures in
-    let p = e ∙ ap (λ n. assembled (option_map three n) before after) c.in_ok-core.was ∙ assembled-yes (three c.in_ok-core.core) before after (sym c.if-not-takes_all.ensures) (sym c.if-not-takes_all-2.ensures) in
+    let p = sym (e ∙ ap (λ n. assembled (option_map three n) before after) c.in_ok-core.was ∙ assembled-yes (three c.in_ok-core.core) before after (sym c.if-not-takes_all.ensures) (sym c.if-not-takes_all-2.ensures)) in
     record {
-      told = sym p;
+      told = p;
       tells = tells_same c.args.text.now _ p;
     }
 
@@ -23,9 +23,9 @@ returns-in_err-core c =
     let before = option_map (λ x. x.now) c.cut-2.result.1 in
     let after = option_map (λ x. x.now) c.cut.result.1 in
     let e = parts_told c.args.text.now c.cut.result.0.now c.cut-2.result.0.now before after (option_map three c.read_core.result) c.cut.ensures.front c.cut.ensures.rest c.cut-2.ensures.front c.cut-2.ensures.rest c.read_core.ensures in
-    let p = e ∙ ap (λ n. assembled (option_map three n) before after) c.in_err-core.was ∙ ap (option_map seen) (sym c.from_residual.ensures) in
+    let p = sym (e ∙ ap (λ n. assembled (option_map three n) before after) c.in_err-core.was ∙ ap (option_map seen) (sym c.from_residual.ensures)) in
     record {
-      told = sym p;
+      told = p;
       tells = tells_same c.args.text.now _ p;
     }
 
@@ -40,4 +40,5 @@ returns-then-not-takes_all c =
       | then-not-takes_all-via-then-not-takes_all w ↦ assembled-no_pre core before after (sym w.if-not-takes_all.ensures)
       | then-not-takes_all-via-else-not-takes_all+then-not-takes_all-2 w ↦ assembled-no_build core before after (sym w.if-not-takes_all-2.ensures)
     ] in
-    record { told = sym (e ∙ refused); tells = tells_same c.args.text.now _ (e ∙ refused) }
+    let p = sym (e ∙ refused) in
+    record { told = p; tells = tells_same c.args.text.now _ p }
