@@ -22,7 +22,7 @@ const GATHERED: usize = 65_536;
 fn summary<W: Write>(out: &mut W, found: &Census) -> io::Result<()> {
     writeln!(out, "{:>10}  lines", found.lines)?;
     for kind in KINDS {
-        writeln!(out, "{:>10}  {kind}", found.kinds[usize::from(kind)])?;
+        writeln!(out, "{:>10}  {kind}", found.of_kind(kind))?;
     }
     writeln!(out, "{:>10}  of no known kind", found.unknown)?;
     writeln!(out, "{:>10}  longer than 65536 bytes", found.too_long)?;
