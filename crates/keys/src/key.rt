@@ -11,6 +11,7 @@ pub trait Key: Copy {
     // What each kind of key shows, whatever the seed.
     ghost laws: { (seed : ℕ) → Lawful alike (code seed) };
 
+    // Not `Eq`: over it each impl would still show that its `==` is the equality that its hash goes with.
     fn same(self, other: Self) -> bool
         ensures { result ≡ alike self other };
 
