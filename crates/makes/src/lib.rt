@@ -13,6 +13,7 @@ use idents::ident::Ident;
 use index::table::term_table;
 use keyed::slot::Slot;
 
+// Three functions and not one: each make is lent other memory.
 // In a table alone.
 pub fn in_table(
     slots: &mut [Slot<Ident, u32>],
