@@ -1,14 +1,14 @@
 -- The low orders that pass a test, each once. Assumes nothing.
-use Rattle.std.specs.Prelude.{◌≡◌, ℕ, zero, suc, ◌+◌, ◌<◌, Bool, true, false, cond, ◌&&◌, List, ◌∷◌, length, ◌≢◌, nat_lt, refl}
+use Rattle.std.specs.Prelude.{is_none, ◌≡◌, ℕ, zero, suc, ◌+◌, ◌<◌, Bool, true, false, cond, ◌&&◌, List, ◌∷◌, length, ◌≢◌, nat_lt, refl}
 use Rattle.std.proofs.Common.{arith}
 use Rattle.std.proofs.lemmas.Grind.{common_steps}
 use Rattle.keyed.specs.Meaning.{listed, NoRepeats}
 use Rattle.idents.specs.declared.ident.Ident.{Ident}
 use Rattle.idents.specs.Idents.{same_ident}
-use Rattle.front.specs.Fronts.{no_namespace, low, low_keys}
+use Rattle.front.specs.Fronts.{low, low_keys}
 
 -- an order below n is listed where it passes
-pub listed-low : (h : ℕ → Bool) (n : ℕ) (i : Ident) → listed same_ident i (low_keys h n) ≡ ((no_namespace i.namespace && nat_lt i.order n) && h i.order)
+pub listed-low : (h : ℕ → Bool) (n : ℕ) (i : Ident) → listed same_ident i (low_keys h n) ≡ ((is_none i.namespace && nat_lt i.order n) && h i.order)
 unfolding low_keys
 listed-low h zero i = grind (arith, common_steps)
 listed-low h (suc n) i = grind (arith, common_steps, listed-low h n i)
