@@ -98,7 +98,7 @@ fn touch(slots: &[Slot<Ident, u32>], many: u32) -> u32 {
     }
     for i in 0..many {
         let slot = slots[mix(1, u64::from(i)) as usize % n];
-        if let Slot::Held(_, _) = slot {
+        if let Some(_) = slot {
             held = held.saturating_add(1);
         }
     }
@@ -115,7 +115,7 @@ fn each(time: Duration, many: u32) -> u128 {
 
 fn measure(rt: &HostRuntime, many: u32, slots: usize, kind: Kind) -> anyhow::Result<()> {
     let heap = rt.alloc();
-    let mut row = vec![in heap; Slot::Free; slots]?;
+    let mut row = vec![in heap; None; slots]?;
     let mut table = term_table(&mut row[..], SEED);
     let a = Instant::now(rt)?;
     let refused = enter(&mut table, many, kind);

@@ -74,7 +74,7 @@ mod tests {
     #[test]
     fn last_taken_is_found(rt: HostRuntime) {
         let mut orders = [None; LOW];
-        let mut slots = [Slot::Free; 2];
+        let mut slots = [None; 2];
         let mut entries = [
             entry(Some(3), 9, 1),
             entry(None, 9, 2),
