@@ -41,5 +41,4 @@ pub fn enter_and_ask<I: TermIdToIdxMap>(
 // Two makes of one size and one room, whatever their seeds, mark the same entries and find the same numbers.
 pub fn told_once()
     ensures { ToldOnce }
-{
-}
+{}

@@ -172,7 +172,7 @@ fn commands<W: Write, I: TermIdToIdxMap>(
     session: &mut Session<'_, I>,
     lines: Lines<'_>,
 ) -> io::Result<()> {
-    for (number, line) in lines.enumerate() {
+    for (line, number) in lines.zip(0u64..) {
         if line.is_empty() {
             continue;
         }
@@ -192,8 +192,9 @@ fn over_front(rt: &HostRuntime, wanted: IndexOptions, bytes: &[u8]) -> io::Resul
     let mut slots = vec![in heap; None; wanted.slots]?;
     let mut orders = [None; LOW];
     let mut table = term_table(&mut slots, wanted.seed);
+    let mut front = Front::new(&mut orders, &mut table);
     let mut session = Session {
-        index: &mut Front::new(&mut orders, &mut table),
+        index: &mut front,
         namespaces: BTreeMap::new(heap),
         heap,
     };

@@ -52,10 +52,10 @@ fn is_new_style(line: &[u8]) -> Option<bool> {
 }
 
 // The line by its number, and what was read in it, or why nothing was.
-fn told<W: Write, T: fmt::Display, E: fmt::Display>(
+fn told<W: Write, T: fmt::Display + Drop, E: fmt::Display + Drop>(
     out: &mut W,
     letter: char,
-    number: usize,
+    number: u64,
     read: Result<T, E>,
 ) -> io::Result<()> {
     match read {
@@ -68,7 +68,7 @@ fn told<W: Write, T: fmt::Display, E: fmt::Display>(
 fn all_names<W: Write>(out: &mut W, heap: Global, lines: Lines<'_>) -> io::Result<()> {
     let mut scratch = vec![in heap; 0u8; 65_538]?;
     let mut new_style = false;
-    for (number, line) in lines.enumerate() {
+    for (line, number) in lines.zip(0u64..) {
         match classify(line) {
             LineClass::Known(LineKind::ToolVersion) => {
                 new_style = is_new_style(line).unwrap_or(new_style);

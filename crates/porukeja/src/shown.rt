@@ -49,12 +49,13 @@ pub(crate) struct ShownWords<'a>(pub Words<'a>);
 
 impl<'a> fmt::Display for ShownWords<'a> {
     fn fmt<W: fmt::Write>(&self, f: &mut fmt::Formatter<W>) -> fmt::Result {
+        let mut words = self.0;
         f.write_str("[")?;
-        for (i, word) in self.0.enumerate() {
-            if i > 0 {
-                f.write_str(" ")?;
-            }
-            write!(f, "{}", Shown(word))?;
+        if let Some(first) = words.next() {
+            write!(f, "{}", Shown(first))?;
+        }
+        for word in words {
+            write!(f, " {}", Shown(word))?;
         }
         f.write_str("]")
     }

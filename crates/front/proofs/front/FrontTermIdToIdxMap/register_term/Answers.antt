@@ -1,10 +1,8 @@
-use Rattle.std.proofs.Common.{◌≡◌, ℕ, ◌<◌, ltb, List, length, Option, sym, arith}
+use Rattle.std.proofs.Common.{◌≡◌, ℕ, List, length, Option, sym}
 use Rattle.std.specs.Borrow.{MutBor}
 use native.Mathlib.Nat.{ℕ_set}
-use Rattle.std.proofs.lemmas.Bool.{and_parts, ltb-true}
 use Rattle.keyed.specs.Refusals.{no_room}
 use Rattle.front.specs.declared.front.Front.{Front}
-use Rattle.front.specs.Fronts.{no_namespace}
 use Rattle.front.proofs.Layers.{entered-low, entered-high}
 use Rattle.front.proofs.front.FrontTermIdToIdxMap.register_term.Goals as goal
 
@@ -16,15 +14,13 @@ pub returns-then-is_frontal-clause-entered : goal.returns-then-is_frontal-clause
 returns-then-is_frontal-clause-entered g c =
     let t = g.I.TermIdToIdxMap in
     let s = c.args.self.now in
-    let lo = sym c.if-is_frontal.ensures in
-    let within : c.args.id.order < length s.orders.now = omega (arith, s.long, ltb-true c.args.id.order 4096 (and_parts (no_namespace c.args.id.namespace) (ltb c.args.id.order 4096) lo).1) in
-    λ ok. entered-low s.orders.now (t.means s.below.now) c.args.id c.args.number t.roomy (t.size s.below.now) no_room lo within (cc) (cc)
+    λ ok. entered-low s.orders.now (t.means s.below.now) c.args.id c.args.number t.roomy (t.size s.below.now) no_room (sym c.if-is_frontal.ensures) s.long (cc) (cc)
 
 pub returns-else-is_frontal-clause-entered : goal.returns-else-is_frontal-clause-entered
 returns-else-is_frontal-clause-entered g c =
     let t = g.I.TermIdToIdxMap in
     let s = c.args.self.now in
-    λ ok. entered-high s.orders.now (t.means s.below.now) c.args.id c.args.number (sym c.if-is_frontal.ensures) ok.1 t.roomy (t.size s.below.now) no_room _ _ (c.register_term.ensures.entered ok.0)
+    λ ok. entered-high s.orders.now t.roomy (t.size s.below.now) ok.1 (sym c.if-is_frontal.ensures) (c.register_term.ensures.entered ok.0)
 
 pub returns-else-is_frontal-clause-refused : goal.returns-else-is_frontal-clause-refused
 returns-else-is_frontal-clause-refused g c =
