@@ -109,13 +109,13 @@ fn read_command(line: &[u8]) -> Result<(Asked, IdText<'_>), CommandFault> {
 
 // An index, and the numbers of the namespaces of the identifiers in it.
 #[derive(Drop)]
-struct Session<'i, I> {
-    index: &'i mut I,
+struct Session<I> {
+    index: I,
     namespaces: BTreeMap<Vec<u8>, usize>,
     heap: Global,
 }
 
-impl<'i, I: TermIdToIdxMap> Session<'i, I> {
+impl<I: TermIdToIdxMap> Session<I> {
     // The identifier by numbers, a new namespace by the number that it would get; none where a number does not fit.
     fn ident(&self, id: IdText<'_>) -> Option<Ident> {
         let order = u32::try_from(id.order()).ok()?;
@@ -169,7 +169,7 @@ impl<'i, I: TermIdToIdxMap> Session<'i, I> {
 // All commands, and how many identifiers are held in the end. A blank line asks nothing.
 fn commands<W: Write, I: TermIdToIdxMap>(
     out: &mut W,
-    session: &mut Session<'_, I>,
+    session: &mut Session<I>,
     lines: Lines<'_>,
 ) -> io::Result<()> {
     for (line, number) in lines.zip(0u64..) {
@@ -192,9 +192,8 @@ fn over_front(rt: &HostRuntime, wanted: IndexOptions, bytes: &[u8]) -> io::Resul
     let mut slots = vec![in heap; None; wanted.slots]?;
     let mut orders = [None; LOW];
     let mut table = term_table(&mut slots, wanted.seed);
-    let mut front = Front::new(&mut orders, &mut table);
     let mut session = Session {
-        index: &mut front,
+        index: Front::new(&mut orders, &mut table),
         namespaces: BTreeMap::new(heap),
         heap,
     };
