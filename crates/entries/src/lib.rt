@@ -21,7 +21,7 @@ pub fn enter_all<I: TermIdToIdxMap>(index: &mut I, entries: &mut [Entry])
     ensures told { I.TermIdToIdxMap.sound index.old → I.TermIdToIdxMap.means index.old ≡ nothing → Told I.TermIdToIdxMap.roomy (I.TermIdToIdxMap.size index.old) entries.old entries.new (I.TermIdToIdxMap.means index.new) }
     ensures spare { I.TermIdToIdxMap.sound index.old → I.TermIdToIdxMap.means index.old ≡ nothing → ((k : ℕ) → k < length entries.old → proper_ident (at entries.old k).id ≡ true) → length entries.old ≤ I.TermIdToIdxMap.capacity (I.TermIdToIdxMap.size index.old) → (k : ℕ) → k < length entries.old → (at entries.new k).taken ≡ true }
 {
-    for entry in entries.iter_mut() {
+    for entry in entries {
         entry.taken = index.register_term(entry.id, entry.number).is_ok();
     }
 }

@@ -13,11 +13,11 @@ loop-entry-preserved g c =
       c.register_term.ensures.fixed ∙ inv.1,
       (λ ok none.
           let did = rw inv.1 at (c.register_term.ensures.entered (inv.0 ok)) in
-          more t.roomy (t.size c.args.index.now) c.args.entries.now c.loop-entry.entries c.loop-entry.entry-index (omega arith) (t.means s) (t.means c.register_term.new.self) no_room c.register_term.result did c.is_ok-entry.result c.is_ok-entry.ensures.value
+          more t.roomy (t.size c.args.index.now) c.args.entries.now c.loop-entry.entry-items c.loop-entry.entry-index (omega arith) (t.means s) (t.means c.register_term.new.self) no_room c.register_term.result did c.is_ok-entry.result c.is_ok-entry.ensures.value
           (t.laws.counted s (inv.0 ok)) (inv.2 ok none)),
     )
 
 pub returns-clause-spare : goal.returns-clause-spare
 returns-clause-spare g c =
     let t = g.I.TermIdToIdxMap in
-    λ ok none. all_taken t.laws (t.size c.args.index.now) c.args.entries.now c.loop-entry.entries (t.means c.loop-entry.index) (search rules)
+    λ ok none. all_taken t.laws (t.size c.args.index.now) c.args.entries.now c.loop-entry.entry-items (t.means c.loop-entry.index) (search rules)

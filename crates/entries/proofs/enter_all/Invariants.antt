@@ -8,4 +8,4 @@ invariant-loop-entry g l =
     let t = g.I.TermIdToIdxMap in
     (t.sound l.initial.index → t.sound l.index)
     × (t.size l.index ≡ t.size l.initial.index)
-    × (t.sound l.initial.index → t.means l.initial.index ≡ nothing → Running t.roomy (t.size l.initial.index) l.initial.entries l.entries l.entry-index (t.means l.index))
+    × (t.sound l.initial.index → t.means l.initial.index ≡ nothing → Running t.roomy (t.size l.initial.index) l.fn.entries l.entry-items l.entry-index (t.means l.index))
