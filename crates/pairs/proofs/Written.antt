@@ -28,11 +28,11 @@ lacks_both p (b ∷ x) y h k = (h.0, lacks_both p x y h.1 k)
 
 split_one : (p : ℕ → Bool) (x : List ℕ) → Lacks p x → split_by p x ≡ x ∷ []
 split_one p [] h = refl
-split_one p (b ∷ x) h = cond-false (p b) _ _ h.0 ∙ ap (longer b) (split_one p x h.1)
+split_one p (b ∷ x) h = grind (arith, split_one p x h.1)
 
 split_more : (p : ℕ → Bool) (s : ℕ) (x y : List ℕ) → p s ≡ true → Lacks p x → split_by p (x ++ s ∷ y) ≡ x ∷ split_by p y
-split_more p s [] y e h = cond-true (p s) _ _ e
-split_more p s (b ∷ x) y e h = cond-false (p b) _ _ h.0 ∙ ap (longer b) (split_more p s x y e h.1)
+split_more p s [] y e h = grind arith
+split_more p s (b ∷ x) y e h = grind (arith, split_more p s x y e h.1)
 
 -- ---- the words of a pair
 
@@ -60,7 +60,7 @@ some_mapped f (Some x) = refl
 
 opened_closes : (a : List ℕ) → closes a ≡ false → closes (40 ∷ a) ≡ false
 opened_closes [] h = refl
-opened_closes (b ∷ a) h = some_mapped (λ l. 40 ∷ l) (end_off 41 (b ∷ a)) ∙ h
+opened_closes (b ∷ a) h = grind (arith, some_mapped)
 
 not_empty : (x : List ℕ) → bytes_eq (x ++ 41 ∷ []) [] ≡ false
 not_empty [] = refl
@@ -68,18 +68,18 @@ not_empty (b ∷ x) = refl
 
 no_semicolon : (b : List ℕ) → bytes_eq (b ++ 41 ∷ []) (59 ∷ []) ≡ false
 no_semicolon [] = refl
-no_semicolon (c ∷ b) = and_right (eqb c 59) (bytes_eq (b ++ 41 ∷ []) []) (not_empty b)
+no_semicolon (c ∷ b) = grind (arith, not_empty b)
 
 end_closed : (s : ℕ) (b : List ℕ) → eqb s s ≡ true → end_off s (b ++ s ∷ []) ≡ Some b
-end_closed s b e = end_push s b s ∙ cond-true (eqb s s) _ _ e
+end_closed s b e = grind (arith, end_push s b s)
 
 one_closes : (a b : List ℕ) → closes (pair_text OneWord a b) ≡ true
-one_closes a b = ap closes (ap (λ l. 40 ∷ l) (sym (append_assoc a (59 ∷ b) (41 ∷ [])))) ∙ ap is_some (end_closed 41 (40 ∷ (a ++ 59 ∷ b)) refl)
+one_closes a b = grind (arith, append_assoc, end_closed 41 (40 ∷ (a ++ 59 ∷ b)))
 
 form_written : (g : Form) (a b : List ℕ) (ws : List (List ℕ)) → FitsForm g a b → Ok g ≡ form_ahead (pair_words g a b ++ ws)
-form_written OneWord a b ws h = sym (cond-true (closes (pair_text OneWord a b)) _ _ (one_closes a b))
-form_written TwoWords a b ws h = sym (cond-false (closes (40 ∷ a)) _ _ (opened_closes a h) ∙ ap (λ t. Ok (cond t Apart TwoWords)) (no_semicolon b))
-form_written Apart a b ws h = sym (cond-false (closes (40 ∷ a)) _ _ (opened_closes a h))
+form_written OneWord a b ws h = grind (arith, one_closes a b)
+form_written TwoWords a b ws h = grind (arith, opened_closes a h, no_semicolon b)
+form_written Apart a b ws h = grind (arith, opened_closes a h)
 
 -- ---- its parts
 
@@ -90,8 +90,7 @@ parts_written TwoWords a b ws h = refl
 parts_written Apart a b ws h = refl
 
 words_back : (f : Option Form) (equal : Bool) (g : Form) (a b : List ℕ) (from : ℕ) (ws : List (List ℕ)) → (equal && differs f g) ≡ false → FitsForm g a b → read_pair f equal from (pair_words g a b ++ ws) ≡ Ok (record { texts = (a, b); shape = g })
-words_back f equal g a b from ws e h =
-    sym (pair_read f equal from (pair_words g a b ++ ws) g (form_written g a b ws h) (sym e) (40 ∷ a) (b ++ 41 ∷ []) (parts_written g a b ws h) a b (ap (option_zip (Some a)) (sym (end_closed 41 b refl))))
+words_back f equal g a b from ws e h = grind (arith, form_written g a b ws h, parts_written g a b ws h, end_closed 41 b)
 
 pub pairs_back : PairsBack
 pairs_back = record { pair = λ f equal g a b from ws e h. ap (λ l. read_pair f equal from (l ++ ws)) (words_written g a b h.first h.second) ∙ words_back f equal g a b from ws e h.fits }
@@ -102,8 +101,8 @@ bars_back : (a : List ℕ) → bars_off (barred a) ≡ Some a
 bars_back a = end_closed 124 a refl
 
 sorted_back : (n : NameForm) (p : List ℕ × List ℕ) → Nameless n p → sorted n (raw_first n p, raw_second n p) ≡ Ok p
-sorted_back TypeOnly p h = ap (λ a. Ok (a, p.1)) (sym h)
-sorted_back NameAndType p h = ap (λ o. ok_or (option_zip o (bars_off (barred p.1))) BarMissing) (bars_back p.0) ∙ ap (λ o. ok_or (option_zip (Some p.0) o) BarMissing) (bars_back p.1)
+sorted_back TypeOnly p h = grind arith
+sorted_back NameAndType p h = grind (arith, bars_back)
 
 same_form : (g : Form) → differs (Some g) g ≡ false
 same_form OneWord = refl
@@ -111,9 +110,7 @@ same_form TwoWords = refl
 same_form Apart = refl
 
 entry_back : (g : Form) (n : NameForm) (p : List ℕ × List ℕ) (from : ℕ) (ws : List (List ℕ)) → Entry g n p → entry_read g n from (pair_words g (raw_first n p) (raw_second n p) ++ ws) ≡ Ok p
-entry_back g n p from ws h =
-    ap (sorted_at n from) (words_back (Some g) true g (raw_first n p) (raw_second n p) from ws (same_form g) h.writable.fits)
-    ∙ ap (results.result_map_both (λ t. t) (λ e. told e from)) (sorted_back n p h.nameless)
+entry_back g n p from ws h = grind (arith, words_back (Some g) true g (raw_first n p) (raw_second n p) from ws (same_form g) h.writable.fits, sorted_back n p h.nameless)
 
 some_words : (g : Form) (a b : List ℕ) (ws : List (List ℕ)) → 0 < length (pair_words g a b ++ ws)
 some_words OneWord a b ws = omega arith
