@@ -17,7 +17,6 @@ use Rattle.pairs.specs.Pairs.{told, form_ahead, parts_ahead, read_pair, sorted}
 use Rattle.pairs.specs.Names.{NamesModel, list_kind, sorted_at, entry_read, entries_read, onto, listed, of_first}
 use Rattle.pairs.specs.Law.{pair_text, Lacks, FitsForm, PairsBack, barred, raw_first, raw_second, Nameless, Entry, list_words, ListsBack}
 use Rattle.pairs.proofs.Ends.{end_push}
-use Rattle.pairs.proofs.Stages.{pair_read}
 use Rattle.pairs.proofs.Entries.{entries_more}
 
 -- ---- pieces
@@ -46,11 +45,8 @@ closing_lacks b h = lacks_both separates b (41 ∷ []) h (refl, tt)
 
 words_written : (g : Form) (a b : List ℕ) → Lacks separates a → Lacks separates b → words_of (pair_text g a b) ≡ pair_words g a b
 words_written OneWord a b h k = split_one separates (pair_text OneWord a b) (refl, lacks_both separates a (59 ∷ (b ++ 41 ∷ [])) h (refl, closing_lacks b k))
-words_written TwoWords a b h k = split_more separates 32 (40 ∷ a) (b ++ 41 ∷ []) refl (refl, h) ∙ ap (λ l. (40 ∷ a) ∷ l) (split_one separates (b ++ 41 ∷ []) (closing_lacks b k))
-words_written Apart a b h k =
-    split_more separates 32 (40 ∷ a) (59 ∷ 32 ∷ (b ++ 41 ∷ [])) refl (refl, h)
-    ∙ ap (λ l. (40 ∷ a) ∷ l) (split_more separates 32 (59 ∷ []) (b ++ 41 ∷ []) refl (refl, tt))
-    ∙ ap (λ l. (40 ∷ a) ∷ (59 ∷ []) ∷ l) (split_one separates (b ++ 41 ∷ []) (closing_lacks b k))
+words_written TwoWords a b h k = grind (arith, split_more separates 32 (40 ∷ a) (b ++ 41 ∷ []) refl (refl, h), split_one separates (b ++ 41 ∷ []) (closing_lacks b k))
+words_written Apart a b h k = grind (arith, split_more separates 32 (40 ∷ a) (59 ∷ 32 ∷ (b ++ 41 ∷ [])) refl (refl, h), split_more separates 32 (59 ∷ []) (b ++ 41 ∷ []) refl (refl, tt), split_one separates (b ++ 41 ∷ []) (closing_lacks b k))
 
 -- ---- its form
 
@@ -84,8 +80,7 @@ form_written Apart a b ws h = grind (arith, opened_closes a h)
 -- ---- its parts
 
 parts_written : (g : Form) (a b : List ℕ) (ws : List (List ℕ)) → FitsForm g a b → Some (40 ∷ a, b ++ 41 ∷ []) ≡ parts_ahead g (pair_words g a b ++ ws)
-parts_written OneWord a b ws h =
-    sym (ap two_of (split_more semicolon 59 (40 ∷ a) (b ++ 41 ∷ []) refl (refl, h.0) ∙ ap (λ l. (40 ∷ a) ∷ l) (split_one semicolon (b ++ 41 ∷ []) (lacks_both semicolon b (41 ∷ []) h.1 (refl, tt)))))
+parts_written OneWord a b ws h = grind (arith, split_more semicolon 59 (40 ∷ a) (b ++ 41 ∷ []) refl (refl, h.0), split_one semicolon (b ++ 41 ∷ []) (lacks_both semicolon b (41 ∷ []) h.1 (refl, tt)))
 parts_written TwoWords a b ws h = refl
 parts_written Apart a b ws h = refl
 
@@ -128,11 +123,7 @@ entries_back g n (p ∷ ps) from h =
     let a = raw_first n p in
     let b = raw_second n p in
     let ws = list_words g n ps in
-    ap (λ l. entries_read g n from 0 (l ++ ws)) (words_written g a b h.0.writable.first h.0.writable.second)
-    ∙ entries_more g n from (pair_words g a b ++ ws) (some_words g a b ws)
-    ∙ ap (λ r. onto r (entries_read g n (from + words_in g) 0 (drop (words_in g) (pair_words g a b ++ ws)))) (entry_back g n p from ws h.0)
-    ∙ ap (λ l. onto (Ok p) (entries_read g n (from + words_in g) 0 l)) (words_behind g a b ws)
-    ∙ ap (onto (Ok p)) (entries_back g n ps (from + words_in g) h.1)
+    grind (arith, words_written g a b h.0.writable.first h.0.writable.second, entries_more g n from (pair_words g a b ++ ws) (some_words g a b ws), entry_back g n p from ws h.0, words_behind g a b ws, entries_back g n ps (from + words_in g) h.1)
 
 kind_back : (n : NameForm) (p : List ℕ × List ℕ) → list_kind (raw_first n p) ≡ n
 kind_back TypeOnly p = refl
