@@ -40,6 +40,7 @@ fn next_entry<'a>(
 
 // Reads all the pairs that are left on a line, which must be written in one form, and tells how many there are. The first pair says
 // whether they are types or names and types.
+#[tactic(auto, using(crate::proofs::Written::lists_back, crate::proofs::Entries::list_steps))]
 pub fn check_var_names(words: Words<'_>) -> Result<NamesText, PairRefusal>
     ensures value { result ≡ result_map_both names_said (λ e. e) (names_read words.entry.number (ahead words.entry.left)) }
     ensures back { ListsBack }
