@@ -19,14 +19,12 @@ Pairs = List (List ℕ × List ℕ)
 -- ---- what a cursor has left
 
 pub some_ahead : (o l : Option (Bor (List ℕ))) → options.option_map (λ x. x.now) o ≡ options.option_map (λ x. x.now) l → is_some o ≡ true → 0 < length (ahead l)
-some_ahead None None e h = grind arith
-some_ahead (Some x) None e h = grind arith
+some_ahead o None e h = grind arith
 some_ahead o (Some r) e h = (words_count r.now).0
 
 pub none_ahead : (o l : Option (Bor (List ℕ))) → options.option_map (λ x. x.now) o ≡ options.option_map (λ x. x.now) l → is_some o ≡ false → ahead l ≡ []
 none_ahead o None e h = refl
-none_ahead None (Some r) e h = grind arith
-none_ahead (Some s) (Some r) e h = grind arith
+none_ahead o (Some r) e h = grind arith
 
 pub words_some : (f : Form) → 0 < words_in f
 words_some f = grind arith
@@ -38,14 +36,9 @@ skipped f n from zero ws = grind arith
 skipped f n from (suc k) [] = refl
 skipped f n from (suc k) (w ∷ ws) = grind (arith, skipped f n (from + 1) k ws)
 
-behind : (f : Form) (n : NameForm) (from : ℕ) (w : List ℕ) (ws : List (List ℕ)) → entries_read f n (from + 1) (words_in f - 1) ws ≡ entries_read f n (from + words_in f) 0 (drop (words_in f) (w ∷ ws))
-behind OneWord n from w ws = refl
-behind TwoWords n from w ws = grind (arith, skipped TwoWords n (from + 1) 1 ws)
-behind Apart n from w ws = grind (arith, skipped Apart n (from + 1) 2 ws)
-
 pub entries_more : (f : Form) (n : NameForm) (from : ℕ) (ws : List (List ℕ)) → 0 < length ws → entries_read f n from 0 ws ≡ onto (entry_read f n from ws) (entries_read f n (from + words_in f) 0 (drop (words_in f) ws))
 entries_more f n from [] h = absurd (omega arith)
-entries_more f n from (w ∷ ws) h = grind (arith, behind f n from w ws)
+entries_more f n from (w ∷ ws) h = grind (arith, skipped f n (from + 1) (words_in f - 1) ws)
 
 -- ---- the entries counted
 

@@ -100,22 +100,16 @@ sorted_back TypeOnly p h = grind arith
 sorted_back NameAndType p h = grind (arith, bars_back)
 
 same_form : (g : Form) → differs (Some g) g ≡ false
-same_form OneWord = refl
-same_form TwoWords = refl
-same_form Apart = refl
+same_form g = grind arith
 
 entry_back : (g : Form) (n : NameForm) (p : List ℕ × List ℕ) (from : ℕ) (ws : List (List ℕ)) → Entry g n p → entry_read g n from (pair_words g (raw_first n p) (raw_second n p) ++ ws) ≡ Ok p
 entry_back g n p from ws h = grind (arith, words_back (Some g) true g (raw_first n p) (raw_second n p) from ws (same_form g) h.writable.fits, sorted_back n p h.nameless)
 
 some_words : (g : Form) (a b : List ℕ) (ws : List (List ℕ)) → 0 < length (pair_words g a b ++ ws)
-some_words OneWord a b ws = omega arith
-some_words TwoWords a b ws = omega arith
-some_words Apart a b ws = omega arith
+some_words g a b ws = grind arith
 
 words_behind : (g : Form) (a b : List ℕ) (ws : List (List ℕ)) → drop (words_in g) (pair_words g a b ++ ws) ≡ ws
-words_behind OneWord a b ws = refl
-words_behind TwoWords a b ws = refl
-words_behind Apart a b ws = refl
+words_behind g a b ws = grind arith
 
 entries_back : (g : Form) (n : NameForm) (ps : List (List ℕ × List ℕ)) (from : ℕ) → AllByRecursion (Entry g n) ps → entries_read g n from 0 (list_words g n ps) ≡ Ok ps
 entries_back g n [] from h = refl
@@ -126,8 +120,7 @@ entries_back g n (p ∷ ps) from h =
     grind (arith, words_written g a b h.0.writable.first h.0.writable.second, entries_more g n from (pair_words g a b ++ ws) (some_words g a b ws), entry_back g n p from ws h.0, words_behind g a b ws, entries_back g n ps (from + words_in g) h.1)
 
 kind_back : (n : NameForm) (p : List ℕ × List ℕ) → list_kind (raw_first n p) ≡ n
-kind_back TypeOnly p = refl
-kind_back NameAndType p = refl
+kind_back n p = grind arith
 
 abbrev model : NameForm → List (List ℕ × List ℕ) → NamesModel
 model n ps = record { sort = n; entries = ps }
