@@ -6,14 +6,13 @@ use Rattle.std.specs.List.{ends_with}
 use Rattle.std.specs.Option.{option_map}
 use Rattle.pairs.specs.Texts.{end_off, closes}
 
-onto-cond : (t : Bool) (b : ℕ) (xs : List ℕ) → option_map (λ l. b ∷ l) (cond t (Some xs) None) ≡ cond t (Some (b ∷ xs)) None
-onto-cond true b xs = refl
-onto-cond false b xs = refl
-
 pub end_push : (s : ℕ) (xs : List ℕ) (b : ℕ) → end_off s (xs ++ b ∷ []) ≡ cond (eqb b s) (Some xs) None
 end_push s [] b = refl
-end_push s (x ∷ []) b = onto-cond (eqb b s) x []
-end_push s (x ∷ y ∷ xs) b = ap (option_map (λ l. x ∷ l)) (end_push s (y ∷ xs) b) ∙ onto-cond (eqb b s) x (y ∷ xs)
+end_push s (x ∷ []) b = grind arith
+end_push s (x ∷ y ∷ xs) b = grind (arith, end_push s (y ∷ xs) b)
+
+onto-cond : (t : Bool) (b : ℕ) (xs : List ℕ) → option_map (λ l. b ∷ l) (cond t (Some xs) None) ≡ cond t (Some (b ∷ xs)) None
+onto-cond t b xs = grind arith
 
 -- as `strip_suffix` tells it
 pub end_stripped : (s : ℕ) (t : List ℕ) → end_off s t ≡ cond (pointwise eqb (drop (length t - 1) t) (s ∷ [])) (Some (take (length t - 1) t)) None

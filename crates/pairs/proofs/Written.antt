@@ -50,13 +50,9 @@ words_written Apart a b h k = grind (arith, split_more separates 32 (40 ∷ a) (
 
 -- ---- its form
 
-some_mapped : {A B : Type 0} (f : A → B) (o : Option A) → is_some (option_map f o) ≡ is_some o
-some_mapped f None = refl
-some_mapped f (Some x) = refl
-
 opened_closes : (a : List ℕ) → closes a ≡ false → closes (40 ∷ a) ≡ false
 opened_closes [] h = refl
-opened_closes (b ∷ a) h = grind (arith, some_mapped)
+opened_closes (b ∷ a) h = grind arith
 
 not_empty : (x : List ℕ) → bytes_eq (x ++ 41 ∷ []) [] ≡ false
 not_empty [] = refl
@@ -88,12 +84,12 @@ words_back : (f : Option Form) (equal : Bool) (g : Form) (a b : List ℕ) (from 
 words_back f equal g a b from ws e h = grind (arith, form_written g a b ws h, parts_written g a b ws h, end_closed 41 b)
 
 pub pairs_back : PairsBack
-pairs_back = record { pair = λ f equal g a b from ws e h. ap (λ l. read_pair f equal from (l ++ ws)) (words_written g a b h.first h.second) ∙ words_back f equal g a b from ws e h.fits }
+pairs_back = record { pair = λ f equal g a b from ws e h. grind (arith, words_written g a b h.first h.second, words_back f equal g a b from ws e h.fits) }
 
 -- ---- lists
 
 bars_back : (a : List ℕ) → bars_off (barred a) ≡ Some a
-bars_back a = end_closed 124 a refl
+bars_back a = grind (arith, end_closed 124 a)
 
 sorted_back : (n : NameForm) (p : List ℕ × List ℕ) → Nameless n p → sorted n (raw_first n p, raw_second n p) ≡ Ok p
 sorted_back TypeOnly p h = grind arith
@@ -122,16 +118,7 @@ entries_back g n (p ∷ ps) from h =
 kind_back : (n : NameForm) (p : List ℕ × List ℕ) → list_kind (raw_first n p) ≡ n
 kind_back n p = grind arith
 
-abbrev model : NameForm → List (List ℕ × List ℕ) → NamesModel
-model n ps = record { sort = n; entries = ps }
-
 pub lists_back : ListsBack
 lists_back = record {
-  list = λ g n p ps from h.
-      let a = raw_first n p in
-      let b = raw_second n p in
-      let ws = list_words g n (p ∷ ps) in
-      ap (of_first from ws) (pairs_back.pair None true g a b from (list_words g n ps) refl h.0.writable)
-      ∙ ap (λ k. listed g k from ws) (kind_back n p)
-      ∙ ap (results.result_map_both (model n) (λ e. e)) (entries_back g n (p ∷ ps) from h);
+  list = λ g n p ps from h. grind (arith, pairs_back.pair None true g (raw_first n p) (raw_second n p) from (list_words g n ps) refl h.0.writable, kind_back n p, entries_back g n (p ∷ ps) from h);
 }
