@@ -85,12 +85,8 @@ impl<'a> Words<'a> {
         let line = self.left?;
         let end = span_end(line, count)?;
         self.number += count;
-        if end == line.len() {
-            self.left = None;
-            return Some(line);
-        }
-        self.left = Some(&line[end + 1..]);
-        Some(&line[0..end])
+        self.left = line.get(end + 1..);
+        Some(&line[..end])
     }
 
     // What is left of the line: none once the last word is given.
