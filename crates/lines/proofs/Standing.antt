@@ -12,13 +12,9 @@ use Rattle.lines.proofs.Cut.{front-more, nothing-ended, piece-held}
 use Rattle.lines.proofs.Joining.{trim_after}
 
 -- the physical lines and the last piece are the bytes, and hold no LF
-longer-written : (b : ℕ) (bs : List ℕ) (f : List ℕ) (ps : List (List ℕ)) → written ps ++ f ≡ bs → written (longer b ps) ++ cond (held ps) f (b ∷ bs) ≡ b ∷ bs
-longer-written b bs f [] e = refl
-longer-written b bs f (p ∷ ps) e = cc
-
 pub all_bytes : (bs : List ℕ) → written (ended bs) ++ piece bs ≡ bs
 all_bytes [] = refl
-all_bytes (b ∷ bs) = grind (arith, all_bytes bs, longer-written b bs (piece bs) (ended bs))
+all_bytes (b ∷ bs) = grind (arith, all_bytes bs)
 
 longer-plain : (b : ℕ) → is_lf b ≡ false → (ps : List (List ℕ)) → AllByRecursion Plain ps → AllByRecursion Plain (longer b ps)
 longer-plain b e [] h = tt
@@ -45,8 +41,7 @@ each_written : (bs : List ℕ) → written (lines_of EachLine bs) ≡ bs ++ cond
 each_written bs = grind (arith, written-append (ended bs), last_written (ended bs) (piece bs), all_bytes bs, piece-held bs)
 
 last_plain : (f : List ℕ) → Plain f → AllByRecursion Plain (cond (held f) (f ∷ []) [])
-last_plain [] h = tt
-last_plain (c ∷ cs) h = (h, tt)
+last_plain f h = grind arith
 
 each_plain : (bs : List ℕ) → AllByRecursion Plain (lines_of EachLine bs)
 each_plain bs = All-append Plain (ended bs) (cond (held (piece bs)) (piece bs ∷ []) []) (ended-plain bs) (last_plain (piece bs) (piece-plain bs))
@@ -72,13 +67,9 @@ plain_ended (b ∷ p) h = grind (arith, plain_ended p h.1)
 plain_piece : (p : List ℕ) → Plain p → piece p ≡ p
 plain_piece p h = grind (arith, nothing-ended p, plain_ended p h)
 
-held-longer : (b : ℕ) (ps : List (List ℕ)) → held (longer b ps) ≡ held ps
-held-longer b [] = refl
-held-longer b (p ∷ ps) = refl
-
 held-ended : (p r : List ℕ) → held (ended (p ++ 10 ∷ r)) ≡ true
 held-ended [] r = refl
-held-ended (b ∷ p) r = grind (arith, held-ended p r, held-longer)
+held-ended (b ∷ p) r = grind (arith, held-ended p r)
 
 piece-after : (p r : List ℕ) → piece (p ++ 10 ∷ r) ≡ piece r
 piece-after [] r = refl
@@ -106,12 +97,12 @@ plain_goes_on : (p ys : List ℕ) → Plain p → GoesOn p ys
 plain_goes_on p ys h xs zs e = absurd (no_lf xs zs (subst Plain e h))
 
 after_lf : (p l ys : List ℕ) → ends_here (p ++ 10 ∷ l) ys ≡ ends_here l ys
-after_lf p l ys = ap (λ x. blank x || opens ys) (piece-after p l)
+after_lf p l ys = grind (arith, piece-after p l)
 
 goes_on_more : (p l ys : List ℕ) → Plain p → ends_here p (l ++ ys) ≡ false → GoesOn l ys → GoesOn (p ++ 10 ∷ l) ys
 goes_on_more p l ys h f g xs zs e = ⊎_elim
-    (λ q. ap (λ x. ends_here x (zs ++ ys)) q.0 ∙ ap (λ z. ends_here p (z ++ ys)) q.1 ∙ f)
-    (λ q. ap (λ x. ends_here x (zs ++ ys)) q.1 ∙ after_lf p q.0 (zs ++ ys) ∙ g q.0 zs q.2)
+    (λ q. grind (arith, q.0, q.1))
+    (λ q. grind (arith, q.1, after_lf p q.0 (zs ++ ys), g q.0 zs q.2))
     (split p l xs zs h e)
 
 -- a physical line that does not end its line
@@ -150,19 +141,14 @@ written-long [] = grind arith
 written-long (p ∷ ps) = grind (arith, written-long ps, length-append {A = ℕ})
 
 onto-long : (xs : List ℕ) (ls : List (List ℕ)) → length (onto xs ls) ≡ length ls
-onto-long xs [] = refl
-onto-long xs (l ∷ ls) = refl
+onto-long xs ls = grind arith
 
 joined_few : (ps : List (List ℕ)) (f : List ℕ) → length (joined_lines ps f) ≤ length ps
 joined_few [] f = grind arith
 joined_few (p ∷ ps) f = grind (arith, joined_few ps f, onto-long)
 
-last_few : (f : List ℕ) → length (cond (held f) (f ∷ []) []) ≤ length f
-last_few [] = omega arith
-last_few (c ∷ cs) = omega arith
-
 pub few : (m : LineMode) (bs : List ℕ) → length (lines_of m bs) ≤ length bs
-few m bs = let e = ap length (all_bytes bs) in grind (arith, joined_few (ended bs) (piece bs), written-long (ended bs), last_few (piece bs), length-append {A = ℕ}, length-append {A = List ℕ})
+few m bs = let e = ap length (all_bytes bs) in grind (arith, joined_few (ended bs) (piece bs), written-long (ended bs), length-append {A = ℕ}, length-append {A = List ℕ})
 
 pub lines_stand : LinesStand
 lines_stand = record { each_written = each_written; each_plain = each_plain; joined = joined; cut = piece-held; few = few }

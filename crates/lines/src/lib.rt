@@ -2,7 +2,7 @@
 #![tactic(auto)]
 
 ghost use Rattle.std.specs.Prelude.{◌≡◌, ◌<◌, ◌≤◌, length};
-ghost use Rattle.lines.specs.Lines.{lines_of, cut_off, ahead, line_len, front, blank, opens, ends_in, trimmed, ends_at, FirstEnds};
+ghost use Rattle.lines.specs.Lines.{lines_of, cut_off, ahead, line_len, front, blank, opens, trimmed, ends_at, FirstEnds};
 ghost use Rattle.lines.specs.Laws.{LinesStand};
 ghost use Rattle.std.specs.Iterator.{YieldsFirstRef, item_count};
 

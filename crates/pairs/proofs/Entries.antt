@@ -1,17 +1,15 @@
 -- The entries of a list, one by one. Assumes nothing.
-use Rattle.std.proofs.Common.{◌≡◌, ℕ, zero, suc, ◌+◌, ◌-◌, ◌<◌, true, false, List, [], ◌∷◌, length, drop, is_some, Some, None, Ok, Err, Option, Result, sym, refl, ap, ◌∙◌, add-zero, zero-add, arith, Bor}
+use Rattle.std.proofs.Common.{◌≡◌, ℕ, zero, suc, ◌+◌, ◌-◌, ◌<◌, true, false, List, [], ◌∷◌, length, drop, is_some, Some, None, Ok, Err, Option, Result, refl, arith, Bor}
 use Rattle.std.specs.Option as options
 use Rattle.std.specs.Result.{result_map_both}
 use Rattle.words.specs.Words.{ahead}
 use Rattle.words.proofs.Cut.{words_count}
 use Rattle.pairs.specs.declared.types.Form.{Form}
-use Rattle.pairs.specs.declared.types.Form.TheVariants.{OneWord, TwoWords, Apart}
 use Rattle.pairs.specs.declared.types.NameForm.{NameForm}
 use Rattle.pairs.specs.declared.types.PairRefusal.{PairRefusal}
 use Rattle.pairs.specs.Forms.{words_in}
-use Rattle.pairs.specs.Pairs.{PairModel, read_pair}
 use Rattle.pairs.specs.declared.types.NamesText.{NamesText}
-use Rattle.pairs.specs.Names.{NamesModel, entry_read, entries_read, onto, list_kind, listed, of_first, names_read, names_said}
+use Rattle.pairs.specs.Names.{NamesModel, entry_read, entries_read, onto, names_said}
 
 abbrev Pairs : Type 0
 Pairs = List (List ℕ × List ℕ)

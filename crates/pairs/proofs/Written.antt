@@ -1,20 +1,17 @@
 -- Pairs and lists that are written are read back. Assumes nothing.
-use Rattle.std.proofs.Common.{◌≡◌, ℕ, ◌+◌, ◌<◌, Bool, true, false, cond, ◌&&◌, eqb, List, [], ◌∷◌, ◌++◌, length, drop, is_some, Some, None, Ok, Option, sym, refl, ap, ◌∙◌, append_assoc, arith}
-use Rattle.std.specs.Option.{option_map, option_zip, ok_or}
-use Rattle.std.specs.Result as results
+use Rattle.std.proofs.Common.{◌≡◌, ℕ, ◌+◌, Bool, true, false, ◌&&◌, eqb, List, [], ◌∷◌, ◌++◌, Some, None, Ok, Option, refl, append_assoc, arith}
 use Rattle.std.specs.List.{AllByRecursion}
 use Rattle.std.specs.Str.{bytes_eq}
-use Rattle.std.proofs.lemmas.Bool.{cond-true, cond-false, and_right}
-use Rattle.words.specs.Words.{separates, split_by, longer, words_of}
+use Rattle.std.proofs.ByRecursion.{All-append}
+use Rattle.words.specs.Words.{separates, split_by, words_of}
 use Rattle.pairs.specs.declared.types.Form.{Form}
 use Rattle.pairs.specs.declared.types.Form.TheVariants.{OneWord, TwoWords, Apart}
 use Rattle.pairs.specs.declared.types.NameForm.{NameForm}
 use Rattle.pairs.specs.declared.types.NameForm.TheVariants.{TypeOnly, NameAndType}
-use Rattle.pairs.specs.declared.types.PairFault.TheVariants.{BarMissing}
 use Rattle.pairs.specs.Forms.{words_in, differs}
-use Rattle.pairs.specs.Texts.{end_off, closes, bars_off, semicolon, two_of}
-use Rattle.pairs.specs.Pairs.{told, form_ahead, parts_ahead, read_pair, sorted}
-use Rattle.pairs.specs.Names.{NamesModel, list_kind, sorted_at, entry_read, entries_read, onto, listed, of_first}
+use Rattle.pairs.specs.Texts.{end_off, closes, bars_off, semicolon}
+use Rattle.pairs.specs.Pairs.{form_ahead, parts_ahead, read_pair, sorted}
+use Rattle.pairs.specs.Names.{entry_read, entries_read}
 use Rattle.pairs.specs.Law.{pair_text, Lacks, FitsForm, PairsBack, barred, raw_first, raw_second, Nameless, Entry, list_words, ListsBack}
 use Rattle.pairs.proofs.Ends.{end_push}
 use Rattle.pairs.proofs.Entries.{entries_more}
@@ -22,8 +19,7 @@ use Rattle.pairs.proofs.Entries.{entries_more}
 -- ---- pieces
 
 lacks_both : (p : ℕ → Bool) (x y : List ℕ) → Lacks p x → Lacks p y → Lacks p (x ++ y)
-lacks_both p [] y h k = k
-lacks_both p (b ∷ x) y h k = (h.0, lacks_both p x y h.1 k)
+lacks_both p x y h k = All-append (λ b. p b ≡ false) x y h k
 
 split_one : (p : ℕ → Bool) (x : List ℕ) → Lacks p x → split_by p x ≡ x ∷ []
 split_one p [] h = refl
@@ -54,13 +50,10 @@ opened_closes : (a : List ℕ) → closes a ≡ false → closes (40 ∷ a) ≡ 
 opened_closes [] h = refl
 opened_closes (b ∷ a) h = grind arith
 
-not_empty : (x : List ℕ) → bytes_eq (x ++ 41 ∷ []) [] ≡ false
-not_empty [] = refl
-not_empty (b ∷ x) = refl
-
 no_semicolon : (b : List ℕ) → bytes_eq (b ++ 41 ∷ []) (59 ∷ []) ≡ false
 no_semicolon [] = refl
-no_semicolon (c ∷ b) = grind (arith, not_empty b)
+no_semicolon (c ∷ []) = grind arith
+no_semicolon (c ∷ d ∷ b) = grind arith
 
 end_closed : (s : ℕ) (b : List ℕ) → eqb s s ≡ true → end_off s (b ++ s ∷ []) ≡ Some b
 end_closed s b e = grind (arith, end_push s b s)
@@ -95,17 +88,8 @@ sorted_back : (n : NameForm) (p : List ℕ × List ℕ) → Nameless n p → sor
 sorted_back TypeOnly p h = grind arith
 sorted_back NameAndType p h = grind (arith, bars_back)
 
-same_form : (g : Form) → differs (Some g) g ≡ false
-same_form g = grind arith
-
 entry_back : (g : Form) (n : NameForm) (p : List ℕ × List ℕ) (from : ℕ) (ws : List (List ℕ)) → Entry g n p → entry_read g n from (pair_words g (raw_first n p) (raw_second n p) ++ ws) ≡ Ok p
-entry_back g n p from ws h = grind (arith, words_back (Some g) true g (raw_first n p) (raw_second n p) from ws (same_form g) h.writable.fits, sorted_back n p h.nameless)
-
-some_words : (g : Form) (a b : List ℕ) (ws : List (List ℕ)) → 0 < length (pair_words g a b ++ ws)
-some_words g a b ws = grind arith
-
-words_behind : (g : Form) (a b : List ℕ) (ws : List (List ℕ)) → drop (words_in g) (pair_words g a b ++ ws) ≡ ws
-words_behind g a b ws = grind arith
+entry_back g n p from ws h = grind (arith, words_back (Some g) true g (raw_first n p) (raw_second n p) from ws (grind arith) h.writable.fits, sorted_back n p h.nameless)
 
 entries_back : (g : Form) (n : NameForm) (ps : List (List ℕ × List ℕ)) (from : ℕ) → AllByRecursion (Entry g n) ps → entries_read g n from 0 (list_words g n ps) ≡ Ok ps
 entries_back g n [] from h = refl
@@ -113,12 +97,9 @@ entries_back g n (p ∷ ps) from h =
     let a = raw_first n p in
     let b = raw_second n p in
     let ws = list_words g n ps in
-    grind (arith, words_written g a b h.0.writable.first h.0.writable.second, entries_more g n from (pair_words g a b ++ ws) (some_words g a b ws), entry_back g n p from ws h.0, words_behind g a b ws, entries_back g n ps (from + words_in g) h.1)
-
-kind_back : (n : NameForm) (p : List ℕ × List ℕ) → list_kind (raw_first n p) ≡ n
-kind_back n p = grind arith
+    grind (arith, words_written g a b h.0.writable.first h.0.writable.second, entries_more g n from (pair_words g a b ++ ws) (grind arith), entry_back g n p from ws h.0, entries_back g n ps (from + words_in g) h.1)
 
 pub lists_back : ListsBack
 lists_back = record {
-  list = λ g n p ps from h. grind (arith, pairs_back.pair None true g (raw_first n p) (raw_second n p) from (list_words g n ps) refl h.0.writable, kind_back n p, entries_back g n (p ∷ ps) from h);
+  list = λ g n p ps from h. grind (arith, pairs_back.pair None true g (raw_first n p) (raw_second n p) from (list_words g n ps) refl h.0.writable, entries_back g n (p ∷ ps) from h);
 }
