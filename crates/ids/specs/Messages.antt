@@ -1,4 +1,5 @@
--- What a fault prints, after the word or the text that it is about. Assumes nothing.
+-- What a fault prints, after the word or the text that it is about. The limit told is that of small numbers, whose faults alone are
+-- printed. Assumes nothing.
 use Rattle.std.specs.Prelude.{ℕ, List, ◌++◌, codes, decimal}
 use Rattle.ids.specs.declared.number.NumberFault.{NumberFault}
 use Rattle.ids.specs.declared.number.NumberFault.TheVariants.{Empty, NotDigit, TooLarge}
