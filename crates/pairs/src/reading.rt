@@ -61,6 +61,7 @@ fn missing_at(words: &Words<'_>, found: Form) -> usize
 pub fn read_pair<'a>(
     words: &mut Words<'a>,
     form: Option<Form>,
+    // a yes or no beside the form, as a rule of the project has it
     forms_equal: bool,
 ) -> Result<Pair<'a>, PairRefusal>
     ensures value { pair_answer result ≡ read_pair form forms_equal words.old.number (ahead words.old.left) }
