@@ -28,7 +28,7 @@ pub words_apart : WordsApart
 words_apart = record { whole = all_whole; back = λ s. sym (spaces-words s) }
 
 among_exact : (w : List ℕ) (ks : List LineKind) (k : LineKind) → find (λ j. bytes_eq w (text_of j)) ks ≡ Some k → w ≡ text_of k
-among_exact w [] k e = let z : ◌≡◌ {A = ℕ} 0 1 = cc in absurd (omega arith)
+among_exact w [] k e = cc
 among_exact w (j ∷ ks) k e = ⊎_elim
     (λ t. let same : Some j ≡ Some k = sym (cond-true (bytes_eq w (text_of j)) _ _ t) ∙ e in let is : j ≡ k = cc in (bytes_eq-Decides w (text_of j)).0 t ∙ ap text_of is)
     (λ f. among_exact w ks k (sym (cond-false (bytes_eq w (text_of j)) _ _ f) ∙ e))

@@ -69,10 +69,7 @@ impl<'a> Words<'a> {
     pub fn total(&self) -> usize
         ensures { result ≡ self.now.number + length (ahead self.now.left) }
     {
-        match self.left {
-            None => self.number,
-            Some(s) => self.number + count_words(s),
-        }
+        self.number + self.left.map_or(0, count_words)
     }
 
     // The next `count` words as one span of the line, separators between them included: none, and nothing moves, where fewer are left,
