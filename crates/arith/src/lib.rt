@@ -48,6 +48,7 @@ impl From<FractionFault> for ValueFault {
     }
 }
 
+// An enum and a match on signs, and no table of closures: a rule of the project.
 #[derive(Clone, Copy)]
 enum Operator {
     Sum,

@@ -78,7 +78,8 @@ fn note(found: &mut Census, line: &[u8], bad: &mut [BadId])
     }
 }
 
-// Counts the lines of a file. The first bad identifiers are told in `bad`, as many as fit.
+// Counts the lines of a file. The first bad identifiers are told in `bad`, as many as fit: it is lent, by a rule of the project, and the
+// count of all says how many of its places are told.
 pub fn count_lines(bytes: &[u8], mode: LineMode, bad: &mut [BadId]) -> Census
     ensures { CensusOf (lines_of mode bytes.now) result bad.old bad.new }
 {

@@ -37,7 +37,7 @@ impl fmt::Display for NumberFault {
 impl Error for NumberFault {}
 
 // The number that `ds` writes; `from` is the place of its first byte. A value over the limit is left at that, so that digits of any
-// number are read.
+// number are read. The place of the first bad byte is told, so a `fold` of the digits would be no plainer.
 fn read_digits(ds: &[u8], from: usize, limit: u64) -> Result<u64, NumberFault>
     requires { from + length ds.now < 2 ^ 64 }
     ensures { result ≡ numeral limit from ds.now }

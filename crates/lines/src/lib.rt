@@ -91,6 +91,7 @@ impl<'a> Iterator for Lines<'a> {
     // The next line. None if there is none, and then at every later call too.
     fn next(&mut self) -> Option<&'a [u8]> {
         let left = self.left;
+        // The user picks the mode when the program runs; a type for each would only move this match to the caller.
         match self.mode {
             LineMode::Joined => {
                 let Some(end) = joined_end(left) else {

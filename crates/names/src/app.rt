@@ -8,7 +8,8 @@ ghost use Rattle.names.specs.Writing.{laid_at, tail};
 use ids::is_id;
 use words::Words;
 
-// A name as it was read: its first word, and how many bytes it has where more words were joined to that.
+// A name as it was read: its first word, and how many bytes it has where more words were joined to that. A joined name itself is in
+// scratch memory, which is lent by a rule of the project, so only its length is here.
 #[derive(Clone, Copy)]
 pub struct AppName<'a> {
     pub first: &'a [u8],

@@ -3,6 +3,7 @@ ghost use Rattle.std.specs.Prelude.{◌≡◌};
 ghost use Rattle.version.specs.Grammar.{every};
 ghost use Rattle.version.specs.View.{in_class};
 
+// An enum and no closure for each test: the definitions speak of a class by its name, which a closure has not.
 #[derive(Clone, Copy)]
 pub enum Class {
     Digits,

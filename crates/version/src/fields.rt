@@ -7,6 +7,7 @@ ghost use Rattle.version.specs.View.{taken_in};
 use crate::bytes::Class;
 use crate::number::is_numeral;
 
+// An enum, as the classes of bytes are, so that the definitions can name the part.
 #[derive(Clone, Copy)]
 pub enum Part {
     PreRelease,
