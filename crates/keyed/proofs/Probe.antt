@@ -5,7 +5,7 @@ use Rattle.std.proofs.lemmas.List.Quantifiers.{position-Some}
 use Rattle.std.proofs.lemmas.List.Sums.{fails_before_first}
 use Rattle.std.proofs.lemmas.Option.{none-some}
 use Rattle.std.specs.List.{position_or_len}
-use Rattle.keyed.specs.Slots.{is_free, holds_key, gap, start, Passed, Ends, Probed}
+use Rattle.keyed.specs.Slots.{is_free, holds_key, gap, start, Passed, Ends, Through, Probed}
 use Rattle.keyed.proofs.Ring.{gap-after, gap-before}
 
 -- nothing passes where no position is found
@@ -72,13 +72,23 @@ module _ {K V : Type 0} (alike : K → K → Bool) (code : K → ℕ) (xs : List
               (cases_lt j h);
         }
 
-    nowhere : position stops (take h xs) ≡ None → (j : ℕ) → j < length xs → Passed alike k (get_or xs j None)
-    nowhere full j jn =
-        ⊎_elim
-        (λ lt. ahead j lt (position-None stops (take h xs) j None full (omega (arith, length-take h xs))))
-        (λ le. behind j le jn)
-        (cases_lt j h)
+    nowhere : position stops (take h xs) ≡ None → Through alike xs k
+    nowhere full = record {
+      all = λ j jn.
+          ⊎_elim
+          (λ lt. ahead j lt (position-None stops (take h xs) j None full (omega (arith, length-take h xs))))
+          (λ le. behind j le jn)
+          (cases_lt j h);
+    }
 
     pub ending : (r : Option ℕ) → position stops front ≡ r → Probed alike code xs k r
     ending (Some s) found = earlier s (sym (ap (position stops) before) ∙ found)
     ending None full = nowhere (sym (ap (position stops) before) ∙ full)
+
+-- of a row that is another, the same
+module _ {K V : Type 0} {alike : K → K → Bool} {xs ys : List (Option (K × V))} {k : K} (same : xs ≡ ys) where
+  pub ends-along : {code : K → ℕ} {i : ℕ} → Ends alike code xs k i → Ends alike code ys k i
+  ends-along {code = code} {i = i} ends = subst (λ zs. Ends alike code zs k i) same ends
+
+  pub through-along : Through alike xs k → Through alike ys k
+  through-along through = subst (λ zs. Through alike zs k) same through

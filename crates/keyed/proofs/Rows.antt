@@ -3,19 +3,10 @@ use Rattle.std.proofs.Common.{◌≡◌, ℕ, zero, suc, ◌+◌, ◌%◌, ◌<�
 use mathlib.Core.Path.{fun_ext}
 use Rattle.std.proofs.lemmas.Bool.{both_ways, false≢true, cond-true, cond-false, cases_Bool, cases_eq, cases_order, or_from, or_left, or_right, lt-ltb, le-ltb}
 use Rattle.keys.specs.Keys.{Lawful}
-use Rattle.keyed.proofs.Makes.{value_none}
+use Rattle.keyed.proofs.Makes.{value_none, value_hit, value_kept}
 use Rattle.keyed.specs.Meaning.{Names, nothing, put}
-use Rattle.keyed.specs.Slots.{holds_key, is_free, value_in, value_at, gap, start, Passed, Ends, Probed, Reached, Apart, Probing, keys_in, table_names, room_in}
+use Rattle.keyed.specs.Slots.{holds_key, is_free, value_in, value_at, gap, start, Ends, Through, Probed, Reached, Apart, Probing, keys_in, table_names, room_in}
 use Rattle.keyed.proofs.Ring.{gap_same}
-
-drop-other : {A : Type 0} (b c : Bool) (x y z : A) → (b ≡ false → c ≡ false) → cond b x z ≡ cond b x (cond c y z)
-drop-other true c x y z h = refl
-drop-other false c x y z h = sym (cond-false c y z (h refl))
-
-swap : {A : Type 0} (b c : Bool) (x y z : A) → (b ≡ true → c ≡ true → ⊥) → cond b x (cond c y z) ≡ cond c y (cond b x z)
-swap true true x y z h = absurd (h refl refl)
-swap true false x y z h = refl
-swap false c x y z h = refl
 
 some_cond : {A : Type 0} (b : Bool) (x : A) (o : Option A) → (b ≡ false → is_some o ≡ true) → is_some (cond b (Some x) o) ≡ true
 some_cond true x o h = refl
@@ -34,13 +25,6 @@ keys_free K V zero = refl
 keys_free K V (suc n) = keys_free K V n
 
 module _ {K V : Type 0} (alike : K → K → Bool) where
-  pub value_hit : (xs : List (Option (K × V))) (k : K) (i : ℕ) → i < length xs → ((j : ℕ) → j < i → holds_key alike k (get_or xs j None) ≡ false) → holds_key alike k (get_or xs i None) ≡ true → value_at alike xs k ≡ value_in (get_or xs i None)
-  value_hit [] k i lt h e = absurd (omega arith)
-  value_hit (None ∷ xs) k zero lt h e = absurd (false≢true e)
-  value_hit (Some (q, v) ∷ xs) k zero lt h e = cond-true _ _ _ e
-  value_hit (None ∷ xs) k (suc i) lt h e = value_hit xs k i (omega arith) (λ j l. h (suc j) (omega arith)) e
-  value_hit (Some (q, v) ∷ xs) k (suc i) lt h e = cond-false _ _ _ (h 0 (omega arith)) ∙ value_hit xs k i (omega arith) (λ j l. h (suc j) (omega arith)) e
-
   pub holds_held : (xs : List (Option (K × V))) (k : K) (j : ℕ) → j < length xs → holds_key alike k (get_or xs j None) ≡ true → is_some (value_at alike xs k) ≡ true
   holds_held [] k j lt e = absurd (omega arith)
   holds_held (None ∷ xs) k zero lt e = absurd (false≢true e)
@@ -74,17 +58,22 @@ module _ {K V : Type 0} (alike : K → K → Bool) where
   keys_set (None ∷ xs) (suc i) k v lt = keys_set xs i k v (omega arith)
   keys_set (Some (q, w) ∷ xs) (suc i) k v lt = omega (arith, keys_set xs i k v (omega arith))
 
+module _ {K V : Type 0} {alike : K → K → Bool} {xs : List (Option (K × V))} {k : K} (through : Through alike xs k) where
+  -- where every slot is passed, the key has no room
+  pub full_no_room : room_in alike xs k ≡ false
+  full_no_room =
+      or_from (is_some (value_at alike xs k)) (ltb (length (keys_in xs)) (length xs)) (ap is_some (value_none alike xs k (λ j lt. (through.all j lt).other)))
+      (le-ltb (length (keys_in xs)) (length xs) (omega (arith, keys_full alike xs (λ j lt. (through.all j lt).taken_up))))
+
+  -- and no value
+  pub not_found : value_at alike xs k ≡ None
+  not_found = value_none alike xs k (λ j lt. (through.all j lt).other)
+
 abbrev names : {K V : Type 0} → (K → Option V) → ℕ → Names K V
 names f n = record { find = f; count = n }
 
-module _ {K V : Type 0} (alike : K → K → Bool) (code : K → ℕ) (law : Lawful alike code) where
-  -- where every slot is passed, the key has no room
-  pub full_no_room : (xs : List (Option (K × V))) (k : K) → ((j : ℕ) → j < length xs → Passed alike k (get_or xs j None)) → room_in alike xs k ≡ false
-  full_no_room xs k passed =
-      or_from (is_some (value_at alike xs k)) (ltb (length (keys_in xs)) (length xs)) (ap is_some (value_none alike xs k (λ j lt. (passed j lt).other)))
-      (le-ltb (length (keys_in xs)) (length xs) (omega (arith, keys_full alike xs (λ j lt. (passed j lt).taken_up))))
-
-  module _ (xs : List (Option (K × V))) (ok : Probing alike code xs) (k : K) (i : ℕ) (ends : Ends alike code xs k i) where
+module _ {K V : Type 0} {alike : K → K → Bool} {code : K → ℕ} (law : Lawful alike code) where
+  module _ {xs : List (Option (K × V))} (ok : Probing alike code xs) {k : K} {i : ℕ} (ends : Ends alike code xs k i) where
     -- no other slot has the key
     pub others : (j : ℕ) → j < length xs → (j ≡ i → ⊥) → holds_key alike k (get_or xs j None) ≡ false
     others j jn ne =
@@ -122,26 +111,11 @@ module _ {K V : Type 0} (alike : K → K → Bool) (code : K → ℕ) (law : Law
         (λ has. or_left (is_some (value_at alike xs k)) _ (holds_held alike xs k i ends.within has))
         ends.stops
 
-  module _ (xs : List (Option (K × V))) (ok : Probing alike code xs) (k : K) where
-    pub probed_room : (r : Option ℕ) → Probed alike code xs k r → room_in alike xs k ≡ is_some r
-    probed_room None all = full_no_room xs k all
-    probed_room (Some i) ends = has_room xs ok k i ends
+  pub probed_room : {xs : List (Option (K × V))} → Probing alike code xs → (k : K) (r : Option ℕ) → Probed alike code xs k r → room_in alike xs k ≡ is_some r
+  probed_room ok k None through = full_no_room through
+  probed_room ok k (Some i) ends = has_room ok ends
 
-    pub probed_none : Probed alike code xs k None → value_at alike xs k ≡ None
-    probed_none all = value_none alike xs k (λ j jn. (all j jn).other)
-
-  -- a store of k at i, where no other slot has k, and what the slot had was k or nothing
-  pub value_set : (xs : List (Option (K × V))) (i : ℕ) (k : K) (v : V) (q : K) → i < length xs → ((j : ℕ) → j < length xs → (j ≡ i → ⊥) → holds_key alike k (get_or xs j None) ≡ false) → (alike q k ≡ false → holds_key alike q (get_or xs i None) ≡ false) → value_at alike (set xs i (Some (k, v))) q ≡ update alike (value_at alike xs) k v q
-  value_set [] i k v q lt apart was = absurd (omega arith)
-  value_set (None ∷ xs) zero k v q lt apart was = refl
-  value_set (Some (a, w) ∷ xs) zero k v q lt apart was = drop-other _ _ _ _ _ was
-  value_set (None ∷ xs) (suc i) k v q lt apart was = value_set xs i k v q (omega arith) (λ j jn ne. apart (suc j) (omega arith) (λ e. ne (omega arith))) was
-  value_set (Some (a, w) ∷ xs) (suc i) k v q lt apart was =
-      ap (λ z. cond (alike q a) (Some w) z) (value_set xs i k v q (omega arith) (λ j jn ne. apart (suc j) (omega arith) (λ e. ne (omega arith))) was)
-      ∙ swap (alike q a) (alike q k) (Some w) (Some v) (value_at alike xs q)
-      (λ qa qk. both_ways _ (apart 0 (omega arith) (λ e. omega arith)) (law.on k q a (law.back q k qk) qa))
-
-  module _ (xs : List (Option (K × V))) (ok : Probing alike code xs) (k : K) (v : V) (i : ℕ) (ends : Ends alike code xs k i) where
+  module _ {xs : List (Option (K × V))} (ok : Probing alike code xs) {k : K} {i : ℕ} (ends : Ends alike code xs k i) (v : V) where
     -- what stands at j after the store
     at_set : (P : Option (K × V) → Type 0) (j : ℕ) → (j ≡ i → P (Some (k, v))) → ((j ≡ i → ⊥) → P (get_or xs j None)) → P (get_or (set xs i (Some (k, v))) j None)
     at_set P j here there =
@@ -158,19 +132,12 @@ module _ {K V : Type 0} (alike : K → K → Bool) (code : K → ℕ) (law : Law
       either (Some (a, w)) e =
           ⊎_elim (λ t. absurd (both_ways _ f (law.on q a k t (law.back k a (⊎_elim (λ z. absurd (false≢true z)) (λ z. z) e))))) (λ z. z) (cases_Bool (alike q a))
 
-    value_stored : (q : K) → value_at alike (set xs i (Some (k, v))) q ≡ update alike (value_at alike xs) k v q
-    value_stored q = value_set xs i k v q ends.within (others xs ok k i ends) (was q)
-
     count_stored : length (keys_in (set xs i (Some (k, v)))) ≡ length (keys_in xs) + cond (is_some (value_at alike xs k)) 0 1
-    count_stored = keys_set alike xs i k v ends.within ∙ ap (λ n. length (keys_in xs) + n) (turned (get_or xs i None) ∙ ap (λ (o : Option V). cond (is_some o) 0 1) (sym (found xs ok k i ends)))
+    count_stored = keys_set alike xs i k v ends.within ∙ ap (λ n. length (keys_in xs) + n) (turned (get_or xs i None) ∙ ap (λ (o : Option V). cond (is_some o) 0 1) (sym (found ok ends)))
       where
         turned : (x : Option (K × V)) → ◌≡◌ {A = ℕ} (cond (is_free x) 1 0) (cond (is_some (value_in x)) 0 1)
         turned None = refl
         turned (Some (q, w)) = refl
-
-    -- the row means what it meant, but for k
-    pub stored : table_names alike (set xs i (Some (k, v))) ≡ put alike (table_names alike xs) k v
-    stored = λ j. names (fun_ext value_stored j) (count_stored j)
 
     reached_set : Reached alike code (length xs) (set xs i (Some (k, v)))
     reached_set q a b an bn =
@@ -189,10 +156,26 @@ module _ {K V : Type 0} (alike : K → K → Bool) (code : K → ℕ) (law : Law
 
     -- a key like k is in no other slot
     else_where : (q : K) (j : ℕ) → alike q k ≡ true → j < length xs → (j ≡ i → ⊥) → holds_key alike q (get_or xs j None) ≡ false
-    else_where q j qk jn ne = like (get_or xs j None) (others xs ok k i ends j jn ne) where
+    else_where q j qk jn ne = like (get_or xs j None) (others ok ends j jn ne) where
       like : (x : Option (K × V)) → holds_key alike k x ≡ false → holds_key alike q x ≡ false
       like None e = refl
       like (Some (a, w)) e = ⊎_elim (λ qa. absurd (both_ways _ e (law.on k q a (law.back q k qk) qa))) (λ z. z) (cases_Bool (alike q a))
+
+    value_stored : (q : K) → value_at alike (set xs i (Some (k, v))) q ≡ update alike (value_at alike xs) k v q
+    value_stored q =
+        ⊎_elim
+        (λ qk.
+        let here = get_or-set_same xs i (Some (k, v)) None ends.within in
+        value_hit alike (set xs i (Some (k, v))) q i (omega (arith, length-set xs i (Some (k, v)), ends.within))
+        (λ j jn. ap (holds_key alike q) (get_or-set_other xs i j (Some (k, v)) None (λ e. omega arith)) ∙ else_where q j qk (omega (arith, ends.within)) (λ e. omega arith))
+        (ap (holds_key alike q) here ∙ qk)
+        ∙ ap value_in here ∙ sym (cond-true (alike q k) _ _ qk))
+        (λ no. value_kept alike xs q i (Some (k, v)) (was q no) no ∙ sym (cond-false (alike q k) _ _ no))
+        (cases_Bool (alike q k))
+
+    -- the row means what it meant, but for k
+    pub stored : table_names alike (set xs i (Some (k, v))) ≡ put alike (table_names alike xs) k v
+    stored = λ j. names (fun_ext value_stored j) (count_stored j)
 
     apart_set : Apart alike (length xs) (set xs i (Some (k, v)))
     apart_set q a b an bn ab =

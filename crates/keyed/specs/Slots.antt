@@ -67,9 +67,13 @@ pub record Ends {K V : Type 0} (alike : K → K → Bool) (code : K → ℕ) (xs
   pub stops : (is_free (slice_index_or xs i None) ≡ true) ⊎ (holds_key alike k (slice_index_or xs i None) ≡ true)
   pub before : (j : ℕ) → j < length xs → gap (length xs) (start code (length xs) k) j < gap (length xs) (start code (length xs) k) i → Passed alike k (slice_index_or xs j None)
 
--- where the probe for k ends, if it doesn't pass every slot
+-- it passes every slot
+pub record Through {K V : Type 0} (alike : K → K → Bool) (xs : List (Option (K × V))) (k : K) : Type 0 where
+  pub all : (j : ℕ) → j < length xs → Passed alike k (slice_index_or xs j None)
+
+-- where the probe for k ends, if anywhere
 abbrev pub Probed : {K V : Type 0} → (K → K → Bool) → (K → ℕ) → List (Option (K × V)) → K → Option ℕ → Type 0
-Probed alike code xs k None = (j : ℕ) → j < length xs → Passed alike k (slice_index_or xs j None)
+Probed alike code xs k None = Through alike xs k
 Probed alike code xs k (Some i) = Ends alike code xs k i
 
 -- from a free slot on, a probe has nothing more to find

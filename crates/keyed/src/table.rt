@@ -11,13 +11,13 @@ use keys::key::Key;
 const MOST: usize = 16777216;
 
 // How many slots are held.
-fn count<K: Key, V: Copy>(slots: &[Slot<K, V>]) -> usize
+fn count<K, V>(slots: &[Slot<K, V>]) -> usize
     ensures { result ≡ count_by (λ x. is_some x) slots.now }
 {
     slots.iter().filter(|slot| slot.is_some()).count()
 }
 
-// The first slot that is free or has a key like `key`.
+// Where a probe stops in a row: at the first slot that is free or has a key like `key`.
 fn stop<K: Key, V: Copy>(slots: &[Slot<K, V>], key: K) -> Option<usize>
     ensures { result ≡ position (λ x. is_free x || holds_key K.Key.alike key x) slots.now }
 {
@@ -26,7 +26,7 @@ fn stop<K: Key, V: Copy>(slots: &[Slot<K, V>], key: K) -> Option<usize>
         .position(|slot| slot.is_none_or(|(k, _)| key.same(k)))
 }
 
-// Where a probe for `key` ends, going round from a slot that its hash picks: at the first that is free or has a key like it, if any.
+// Where a probe for `key` ends, on its way round from the slot that the hash picks; none if it passes every slot.
 fn probe<K: Key, V: Copy>(slots: &[Slot<K, V>], seed: u64, key: K) -> Option<usize>
     ensures within { IfSome result (λ at. at < length slots.now) }
     ensures ends { Probed K.Key.alike (K.Key.code seed) slots.now key result }
