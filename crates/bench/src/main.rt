@@ -8,10 +8,9 @@ use index::map::TermIdToIdxMap;
 use index::table::term_table;
 use keyed::slot::Slot;
 use keys::mix::mix;
-use std::env;
-use std::fmt;
 use std::num::NonZeroU32;
 use std::time::{Duration, Instant};
+use std::{env, fmt};
 
 const SEED: u64 = 0x9e3779b97f4a7c15;
 

@@ -10,9 +10,8 @@ use index::table::term_table;
 use lines::{LineMode, Lines};
 use std::alloc::{AllocError, Global};
 use std::collections::BTreeMap;
-use std::fmt;
-use std::io;
 use std::io::{BufWriter, Write};
+use std::{fmt, io};
 use words::Words;
 
 // What a line of standard input asks for.
@@ -78,8 +77,7 @@ impl fmt::Display for Answer {
 
 fn enter_number(word: Option<&[u8]>) -> Result<u32, CommandFault> {
     let word = word.ok_or(CommandFault::NoNumber)?;
-    let number =
-        parse_number(word, u64::from(u32::MAX)).map_err(|_| CommandFault::BadNumber)?;
+    let number = parse_number(word, u64::from(u32::MAX)).map_err(|_| CommandFault::BadNumber)?;
     u32::try_from(number).map_err(|_| CommandFault::BadNumber)
 }
 

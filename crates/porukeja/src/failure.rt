@@ -1,7 +1,6 @@
 // Why the program fails: what it says on stderr before it ends with status 1.
 use crate::options::Misuse;
-use std::fmt;
-use std::io;
+use std::{fmt, io};
 
 #[derive(Debug, Drop)]
 pub(crate) enum Failure<'a> {

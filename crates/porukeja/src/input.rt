@@ -39,7 +39,14 @@ fn read_all<R: Read>(rt: &HostRuntime, from: &mut R) -> io::Result<Vec<u8>> {
 pub(crate) fn read_file(rt: &HostRuntime, path: &str, progress: bool) -> io::Result<Vec<u8>> {
     let mut file = File::open(rt, path)?;
     if progress {
-        read_all(rt, &mut Telling { rt, from: file, read: 0 })
+        read_all(
+            rt,
+            &mut Telling {
+                rt,
+                from: file,
+                read: 0,
+            },
+        )
     } else {
         read_all(rt, &mut file)
     }

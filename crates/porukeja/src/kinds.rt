@@ -6,9 +6,8 @@ use crate::options::KindsOptions;
 use census::{BadId, Census, IdCause, LineClass, classify, count_lines};
 use lines::{Lines, cut_off};
 use std::alloc::Global;
-use std::fmt;
-use std::io;
 use std::io::{BufWriter, Write};
+use std::{fmt, io};
 use version::is_new;
 use words::{KINDS, LineKind, Words};
 
@@ -26,7 +25,8 @@ fn summary<W: Write>(out: &mut W, found: &Census) -> io::Result<()> {
     }
     writeln!(out, "{:>10}  of no known kind", found.unknown)?;
     writeln!(out, "{:>10}  longer than 65536 bytes", found.too_long)?;
-    writeln!(out,
+    writeln!(
+        out,
         "{:>10}  identifiers read in word 1 of [mk-..] and [attach-..] lines",
         found.good_ids
     )?;
@@ -106,8 +106,10 @@ fn print(rt: &HostRuntime, wanted: KindsOptions<'_>, bytes: &[u8]) -> io::Result
 
 // The command `kinds`.
 pub(crate) fn run<'a>(rt: &HostRuntime, wanted: KindsOptions<'a>) -> Result<(), Failure<'a>> {
-    let bytes = input::read_file(rt, wanted.path, wanted.progress)
-        .map_err(|why| Failure::Trace(wanted.path, why))?;
+    let bytes = input::read_file(rt, wanted.path, wanted.progress).map_err(|why| Failure::Trace(
+        wanted.path,
+        why,
+    ))?;
     match print(rt, wanted, &bytes) {
         Err(why) => Err(Failure::Output(why)),
         Ok(()) => Ok(()),

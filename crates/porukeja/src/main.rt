@@ -42,7 +42,10 @@ fn tell(rt: &HostRuntime, failure: Failure<'_>) -> ExitCode {
 
 fn run(rt: &HostRuntime) -> io::Result<ExitCode> {
     let arguments = arguments(rt)?;
-    let words: Vec<&str> = arguments.iter().map(|word| word.as_str()).collect(rt.alloc())?;
+    let words: Vec<&str> = arguments
+        .iter()
+        .map(|word| word.as_str())
+        .collect(rt.alloc())?;
     match obey(rt, &words) {
         Ok(()) => Ok(ExitCode::SUCCESS),
         Err(failure) => Ok(tell(rt, failure)),

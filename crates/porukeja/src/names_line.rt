@@ -44,7 +44,10 @@ pub(crate) struct AppLine<'a> {
 }
 
 impl<'a> AppLine<'a> {
-    pub(crate) fn read(line: &'a [u8], scratch: &'a mut [u8]) -> Result<AppLine<'a>, LineFault<'a>> {
+    pub(crate) fn read(
+        line: &'a [u8],
+        scratch: &'a mut [u8],
+    ) -> Result<AppLine<'a>, LineFault<'a>> {
         let (id, mut words) = id_word(line)?;
         let name = parse_app_name(&mut words, scratch).ok_or(LineFault::NoName(id))?;
         Ok(AppLine {
@@ -77,8 +80,7 @@ pub(crate) struct QuantLine<'a> {
 impl<'a> QuantLine<'a> {
     pub(crate) fn read(line: &'a [u8], new_style: bool) -> Result<QuantLine<'a>, LineFault<'a>> {
         let (id, mut words) = id_word(line)?;
-        let qid =
-            parse_qid(&mut words, new_style).map_err(|fault| LineFault::BadName(id, fault))?;
+        let qid = parse_qid(&mut words, new_style).map_err(|fault| LineFault::BadName(id, fault))?;
         Ok(QuantLine {
             id,
             qid,

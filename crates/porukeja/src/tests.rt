@@ -15,9 +15,19 @@ fn options_are_read(rt: HostRuntime) {
 #[test]
 fn wrong_arguments_are_refused(rt: HostRuntime) {
     assert!(rt; matches!(read(&[]), Err(Misuse::NoCommand)));
-    assert!(rt; matches!(read(&["kind", "a.log"]), Err(Misuse::UnknownCommand("kind"))));
+    assert!(rt;
+        matches!(
+            read(&["kind", "a.log"]),
+            Err(Misuse::UnknownCommand("kind"))
+        )
+    );
     assert!(rt; matches!(read(&["kinds"]), Err(Misuse::NoTrace)));
-    assert!(rt; matches!(read(&["kinds", "--name", "a"]), Err(Misuse::UnknownOption("--name"))));
+    assert!(rt;
+        matches!(
+            read(&["kinds", "--name", "a"]),
+            Err(Misuse::UnknownOption("--name"))
+        )
+    );
     assert!(rt; matches!(read(&["kinds", "a", "b"]), Err(Misuse::SecondTrace("b"))));
     assert!(rt; matches!(read(&["help"]), Ok(Command::Help)));
 }
