@@ -19,10 +19,10 @@ module _ {K V : Type 0} {key : Ghosts K} where
   abbrev pub TableSound : (K → K → Bool) → (ℕ → K → ℕ) → SlotTable K V key → Type 0
   TableSound alike code t = Probing alike (code t.seed) (used t.slots.now)
 
+  -- every table has it
+  pub table_sound : (t : SlotTable K V key) → TableSound key.alike key.code t
+  table_sound t = t.sound
+
   -- whether a key has room
   abbrev pub room_for : (K → K → Bool) → SlotTable K V key → K → Bool
   room_for alike t k = room_in alike (used t.slots.now) k
-
-  -- and every table has
-  pub table_sound : (t : SlotTable K V key) → TableSound key.alike key.code t
-  table_sound t = t.sound
