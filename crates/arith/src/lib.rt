@@ -108,9 +108,7 @@ impl Folded {
     fn close(self, op: Operator) -> Result<Fraction, ValueFault>
         ensures { answered result ≡ at_close op self.count (option_map ratio self.value) }
     {
-        let Some(x) = self.value else {
-            return Err(ValueFault::Unreadable);
-        };
+        let x = self.value.ok_or(ValueFault::Unreadable)?;
         match (op, self.count) {
             (Operator::Sum | Operator::Product, _) => Ok(x),
             (Operator::Difference, 1) => Ok(-x),

@@ -90,7 +90,7 @@ pub record Probing {K V : Type 0} (alike : K → K → Bool) (code : K → ℕ) 
   pub reached : Reached alike code (length xs) xs
   pub apart : Apart alike (length xs) xs
 
--- there is at most one proof of it
+-- there is at most one proof of `Probing`, as an invariant of a type needs
 pub Probing-prop : {K V : Type 0} (alike : K → K → Bool) (code : K → ℕ) (xs : List (Option (K × V))) → IsProp (Probing alike code xs)
 Probing-prop alike code xs p q = λ z. record {
   reached = λ k i j li lj free less. Bool-set _ _ (p.reached k i j li lj free less) (q.reached k i j li lj free less) z;

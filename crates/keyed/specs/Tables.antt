@@ -19,7 +19,7 @@ module _ {K V : Type 0} {key : Ghosts K} where
   abbrev pub TableSound : (K → K → Bool) → (ℕ → K → ℕ) → SlotTable K V key → Type 0
   TableSound alike code t = Probing alike (code t.seed) (used t.slots.now)
 
-  -- every table has it
+  -- every table is sound: its type says so
   pub table_sound : (t : SlotTable K V key) → TableSound key.alike key.code t
   table_sound t = t.sound
 

@@ -1,5 +1,6 @@
 use super::*;
 use ids::NumberFault;
+use std::test::Fail;
 use words::{Bars, Joined, Words};
 
 // A cursor before word 2.
@@ -93,6 +94,15 @@ fn quantifiers(rt: HostRuntime) {
         quant_fault(b"[mk-quant] #9 a b", false),
         Some(QidFault::Missing)
     );
+}
+
+#[test]
+fn faults_print(rt: HostRuntime) -> Result<(), Fail> {
+    let missing = QidFault::Missing.to_string(rt.alloc())?;
+    assert!(rt; missing.as_str() == "no name with a count");
+    let count = QidFault::Count(3, NumberFault::NotDigit(0)).to_string(rt.alloc())?;
+    assert!(rt; count.as_str() == "word 3 is no count: it has a byte that is no digit at place 0");
+    Ok(())
 }
 
 // Whether the name has this first piece and number.

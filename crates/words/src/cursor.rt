@@ -12,7 +12,7 @@ use std::iter;
 pub fn is_separator(b: u8) -> bool
     ensures { result ≡ separates b }
 {
-    matches!(b, b' ' | b'\t' | b'\n' | 0x0c | b'\r')
+    b.is_ascii_whitespace()
 }
 
 // Where the first `count` words of `s` end: none where it has fewer, and for no words. A word ends at a separator, the last at the end.
