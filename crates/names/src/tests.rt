@@ -10,11 +10,8 @@ fn at_name(line: &[u8]) -> Words<'_> {
     words
 }
 
-fn has_text(first: &[u8], joined: Option<usize>, scratch: &[u8], expected: &[u8]) -> bool {
-    match name_text(first, joined, scratch) {
-        Some(text) => text == expected,
-        None => false,
-    }
+fn has_text(name: AppName<'_>, scratch: &[u8], expected: &[u8]) -> bool {
+    name.text(scratch).is_some_and(|text| text == expected)
 }
 
 // Whether the application on the line is so named, with so many child words.
@@ -24,7 +21,7 @@ fn app(line: &[u8], expected: &[u8], children: usize) -> bool {
     let Some(name) = parse_app_name(&mut words, &mut scratch) else {
         return false;
     };
-    let named = has_text(name.first, name.joined, &scratch, expected);
+    let named = has_text(name, &scratch, expected);
     named && words.total() == words.number().saturating_add(children)
 }
 
@@ -53,7 +50,11 @@ fn short_scratch(rt: HostRuntime) {
     let told = cut_short(&mut scratch);
     assert_eq!(rt; told, Some(9));
     assert!(rt; scratch == *b"|foo b");
-    assert!(rt; !has_text(b"foo", told, &scratch, b"|foo b"));
+    let name = AppName {
+        first: b"foo",
+        joined: told,
+    };
+    assert!(rt; !has_text(name, &scratch, b"|foo b"));
 }
 
 // Whether the line has this name and count, in this style.

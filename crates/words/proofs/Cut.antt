@@ -1,11 +1,13 @@
 -- One word taken off the front of a line. Assumes nothing.
-use Rattle.std.proofs.Common.{◌≡◌, ℕ, ◌+◌, ◌<◌, ◌≤◌, Bool, List, [], ◌∷◌, length, take, drop, Some, None, position, arith}
+use Rattle.std.proofs.Common.{◌≡◌, ℕ, ◌+◌, ◌<◌, ◌≤◌, Bool, List, [], ◌∷◌, length, Option, Bor, take, drop, Some, None, position, unwrap_or, sym, refl, ap, ◌∙◌, ⊎_elim, arith}
 use Rattle.std.specs.List.{position_or_len}
+use Rattle.std.specs.Slice.{IsGetRangeResult}
 use Rattle.std.proofs.lemmas.Bool.Decides.{nat_tests}
+use Rattle.std.proofs.lemmas.List.{take_rest, take_all}
 use Rattle.std.proofs.lemmas.Grind.{common_steps}
 use Rattle.std.proofs.lemmas.List.Splits.{slice_split_none, slice_split_first, length-slice_split}
 use Rattle.std.proofs.lemmas.List.Sums.{fails_before_first, count_by-le-length}
-use Rattle.words.specs.Words.{separates, split_by, words_of, first_of, rest_of}
+use Rattle.words.specs.Words.{separates, split_by, words_of, ahead, size_left, first_of, rest_of}
 
 -- how many bytes stand before the first that passes a test
 abbrev pub before : (ℕ → Bool) → List ℕ → ℕ
@@ -41,3 +43,21 @@ from_first (m ∷ ms) ns w e h = cc
 pub none_first : (ms : List (List ℕ)) → None ≡ first_of ms → ms ≡ []
 none_first [] e = cc
 none_first (m ∷ ms) e = cc
+
+-- ---- what is ahead of a cursor behind a word that ends at n
+pub ahead_more : (xs : List ℕ) (n : ℕ) (r : Option (Bor (List ℕ))) → IsGetRangeResult xs (n + 1) (length xs) r → n < length xs → ahead r ≡ words_of (drop (n + 1) xs)
+ahead_more xs n None h l = absurd (⊎_elim (λ a. omega arith) (λ a. omega arith) h.0)
+ahead_more xs n (Some s) h l = ap words_of (h.0.2 ∙ take_rest xs (n + 1))
+
+pub ahead_end : (xs : List ℕ) (n : ℕ) (r : Option (Bor (List ℕ))) → IsGetRangeResult xs (n + 1) (length xs) r → length xs ≤ n → ahead r ≡ []
+ahead_end xs n None h l = refl
+ahead_end xs n (Some s) h l = absurd (omega arith)
+
+pub ahead_size : (xs : List ℕ) (n : ℕ) (r : Option (Bor (List ℕ))) → IsGetRangeResult xs (n + 1) (length xs) r → n ≤ length xs → size_left r + n ≤ length xs
+ahead_size xs n None h l = omega arith
+ahead_size xs n (Some s) h l = omega arith
+
+-- n is the place that `position` gives, or the end
+pub first_cut : (xs : List ℕ) (o : Option ℕ) (n : ℕ) (r : Option (Bor (List ℕ))) → o ≡ position separates xs → n ≡ unwrap_or o (length xs) → IsGetRangeResult xs (n + 1) (length xs) r → words_of xs ≡ take n xs ∷ ahead r
+first_cut xs None n r p e h = let all = take_all n xs (omega arith) in let end = ahead_end xs n r h (omega arith) in let one = taken_none separates xs (sym p) in cc
+first_cut xs (Some k) n r p e h = taken_at separates xs n (sym p ∙ ap Some (sym e)) ∙ ap (λ ws. take n xs ∷ ws) (sym (ahead_more xs n r h (grind (arith, nat_tests))))

@@ -1,5 +1,5 @@
 pub mod Cut
 pub mod Items
-pub mod Spans
 pub mod Bytes
+pub mod Spans
 pub mod Standing

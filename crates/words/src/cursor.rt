@@ -6,6 +6,8 @@ ghost use Rattle.words.specs.Words.{separates, words_of, ahead, first_of, rest_o
 
 mod next;
 
+use std::iter;
+
 // Space, tab, LF, FF and CR separate words.
 pub fn is_separator(b: u8) -> bool
     ensures { result ≡ separates b }
@@ -13,21 +15,18 @@ pub fn is_separator(b: u8) -> bool
     matches!(b, b' ' | b'\t' | b'\n' | 0x0c | b'\r')
 }
 
-// Where the first `count` words of `s` end: none where it has fewer, and for no words.
+// Where the first `count` words of `s` end: none where it has fewer, and for no words. A word ends at a separator, the last at the end.
 fn span_end(s: &[u8], count: usize) -> Option<usize>
     ensures value { result ≡ option_map length (option_map unwords (front_of count (words_of s.now))) }
     ensures bound { IfSome result (λ e. (e ≤ length s.now) × (count ≤ length (words_of s.now))) }
 {
-    let mut wanted = count;
-    for (i, b) in s.iter().enumerate() {
-        if is_separator(*b) {
-            if wanted == 1 {
-                return Some(i);
-            }
-            wanted = wanted.saturating_sub(1);
-        }
-    }
-    if wanted == 1 { Some(s.len()) } else { None }
+    let last = count.checked_sub(1)?;
+    s.iter()
+        .enumerate()
+        .filter(|(_, b)| is_separator(**b))
+        .map(|(i, _)| i)
+        .chain(iter::once(s.len()))
+        .nth(last)
 }
 
 // How many words `s` has.
@@ -70,10 +69,7 @@ impl<'a> Words<'a> {
     pub fn total(&self) -> usize
         ensures { result ≡ self.now.number + length (ahead self.now.left) }
     {
-        match self.left {
-            None => self.number,
-            Some(s) => self.number + count_words(s),
-        }
+        self.number + self.left.map_or(0, count_words)
     }
 
     // The next `count` words as one span of the line, separators between them included: none, and nothing moves, where fewer are left,
@@ -86,12 +82,8 @@ impl<'a> Words<'a> {
         let line = self.left?;
         let end = span_end(line, count)?;
         self.number += count;
-        if end == line.len() {
-            self.left = None;
-            return Some(line);
-        }
-        self.left = Some(&line[end + 1..]);
-        Some(&line[0..end])
+        self.left = line.get(end + 1..);
+        Some(&line[..end])
     }
 
     // What is left of the line: none once the last word is given.

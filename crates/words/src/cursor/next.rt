@@ -14,16 +14,12 @@ impl<'a> Iterator for Words<'a> {
 
     fn next(&mut self) -> Option<&'a [u8]> {
         let line = self.left?;
+        let end = line
+            .iter()
+            .position(|b| is_separator(*b))
+            .unwrap_or(line.len());
         self.number += 1;
-        match line.iter().position(|b| is_separator(*b)) {
-            None => {
-                self.left = None;
-                Some(line)
-            }
-            Some(end) => {
-                self.left = Some(&line[end + 1..]);
-                Some(&line[..end])
-            }
-        }
+        self.left = line.get(end + 1..);
+        Some(&line[..end])
     }
 }
