@@ -21,7 +21,7 @@ pub fn classify(line: &[u8]) -> LineClass
     }
     Words::of(line)
         .next()
-        .and_then(|word| LineKind::of(word))
+        .and_then(LineKind::of)
         .map_or(LineClass::Unknown, LineClass::Known)
 }
 

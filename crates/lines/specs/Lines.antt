@@ -92,7 +92,7 @@ front bs = take (line_len bs) bs
 abbrev pub opens : List ℕ → Bool
 opens bs = begins (front bs) || blank (front bs)
 
--- the LF at k ends the first line, where no LF before it does; `alone` says that the physical line at the front is blank
+-- at k stands an LF that ends the first line, where no LF before it does; `alone` says that the physical line at the front is blank
 abbrev pub ends_at : Bool → List ℕ → ℕ → Bool
 ends_at alone s k = is_lf (slice_index s k) && (alone || opens (drop (k + 1) s))
 

@@ -15,7 +15,8 @@ use words::Words;
 // The form of the pair that comes next, which its first two words tell. A fault is told of the word that is missing.
 #[tactic(auto, using(crate::proofs::Ends::closes_by))]
 fn form_ahead(mut words: Words<'_>) -> Result<Form, PairRefusal>
-    ensures { result ≡ result_map_both (λ g. g) (λ e. told e (words.entry.number + length (ahead words.entry.left))) (form_ahead (ahead words.entry.left)) }
+    ensures { result ≡ result_map_both (λ g. g) (λ e. told e (words.entry.number + length (ahead words.entry.left)))
+        (form_ahead (ahead words.entry.left)) }
 {
     let first = words.next().ok_or(PairFault::NoPair.at(words.number()))?;
     if first.ends_with(b")") {
@@ -56,7 +57,8 @@ fn missing_at(words: &Words<'_>, found: Form) -> usize
 }
 
 // Reads the pair that comes next, and takes off its brackets. `form` is the form of the first pair, where that is known; with
-// `forms_equal` this pair must have it too. `words` moves behind the pair, and stays where there is a fault.
+// `forms_equal` this pair must have it too: a yes or no of its own, as the rules name it. `words` moves behind the pair, and stays where
+// there is a fault.
 #[tactic(auto, using(crate::proofs::Written::pairs_back))]
 pub fn read_pair<'a>(
     words: &mut Words<'a>,
@@ -75,6 +77,7 @@ pub fn read_pair<'a>(
         return Err(PairFault::TwoForms.at(word));
     }
     let mut cursor = *words;
+    // An `else`, so that the words of the line are counted only where a part is missing.
     let Some(parts) = parts_ahead(&mut cursor, found) else {
         return Err(PairFault::Missing.at(missing_at(words, found)));
     };
