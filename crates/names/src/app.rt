@@ -59,10 +59,7 @@ fn next_of_name<'a>(words: &mut Words<'a>) -> Option<&'a [u8]>
     ensures number { words.new.number ≡ words.old.number + (if is_some result then 1 else 0) }
 {
     let mut look = *words;
-    let word = look.next()?;
-    if is_id(word) {
-        return None;
-    }
+    let word = look.next().filter(|word| !is_id(word))?;
     *words = look;
     Some(word)
 }
