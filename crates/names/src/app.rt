@@ -1,5 +1,5 @@
 // The name of an application: a part of the line where nothing was joined, else of lent scratch memory.
-ghost use Rattle.std.specs.Prelude.{◌≡◌, ℕ, ◌+◌, ◌^◌, ◌<◌, ◌≤◌, List, ◌∷◌, ◌++◌, length, is_some, if◌then◌else◌, MatchOption};
+ghost use Rattle.std.specs.Prelude.{◌≡◌, ◌+◌, ◌^◌, ◌<◌, ◌∷◌, length, is_some, if◌then◌else◌, MatchOption};
 ghost use Rattle.std.specs.Option.{option_map};
 ghost use Rattle.words.specs.Words.{ahead, first_of, rest_of};
 ghost use Rattle.names.specs.AppNames.{NameFound, named, children, child_words, name_read, name_said, placed_in, scratch_after};
@@ -37,6 +37,7 @@ struct Joiner<'s> {
 }
 
 impl<'s> Joiner<'s> {
+    // Writes `part` behind what is there.
     fn put(&mut self, part: &[u8])
         requires { self.old.end + length part.now < 2 ^ 64 }
         ensures same { self.new.scratch.ghost_name ≡ self.old.scratch.ghost_name }
