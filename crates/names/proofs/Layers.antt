@@ -69,7 +69,7 @@ pub no_name : (ws : List (List ℕ)) → named ws ≡ [] → children ws ≡ ws
 no_name [] e = refl
 no_name (w ∷ ws) e = ⊎_elim
     (λ t. cond-true (is_id w) _ _ t)
-    (λ f. let n = sym (cond-false (is_id w) [] (w ∷ named ws) f) ∙ e in let z : ◌≡◌ {A = ℕ} 0 1 = cc in absurd (omega arith))
+    (λ f. let n = sym (cond-false (is_id w) [] (w ∷ named ws) f) ∙ e in cc)
     (cases_Bool (is_id w))
 
 -- behind the first word stand the others and the bar
@@ -109,22 +109,23 @@ tail-unwords : (w : List ℕ) (ms : List (List ℕ)) → length w + length (tail
 tail-unwords w ms = omega (arith, ap length (tail-words w ms), length-append w (tail ms), length-append (unwords (w ∷ ms)) (124 ∷ []))
 
 pub name_size : (o : Option (Bor (List ℕ))) (w : List ℕ) (ws : List (List ℕ)) → ahead o ≡ w ∷ ws → length w + length (tail (named ws)) ≤ size_left o
-name_size None w ws e = let z : ◌≡◌ {A = ℕ} 0 1 = cc in absurd (omega arith)
+name_size None w ws e = cc
 name_size (Some r) w ws e =
     let long : length (unwords (w ∷ ws)) ≡ length r.now = ap (λ l. length (unwords l)) (sym e) ∙ sym (ap length (spaces-words r.now)) ∙ length-map r.now as_space in
     omega (arith, tail-unwords w ws, named-few ws)
 
--- the bar, the first word, a space and the second word are written, and ms are still to come
-pub whole-laid : (w v : List ℕ) (ms : List (List ℕ)) (m a b c d e : List ℕ) (i j k l : ℕ) → i ≡ 0 + 1 → a ≡ laid_at 0 (124 ∷ []) m → j ≡ i + length w → b ≡ laid_at i w a → k ≡ j + 1 → c ≡ laid_at j (32 ∷ []) b → l ≡ k + length v → d ≡ laid_at k v c → e ≡ laid_at l (tail ms) d → e ≡ laid (barred (unwords (w ∷ v ∷ ms))) m
-whole-laid w v ms m a b c d e i j k l pi pa pj pb pk pc pl pd pe =
-    let start : b ≡ laid (124 ∷ w) m = pb ∙ ap (λ n. laid_at n w a) (pi ∙ zero-add 1) ∙ ap (laid_at 1 w) pa ∙ laid-behind (124 ∷ []) w m in
-    let place : j ≡ length (124 ∷ w) = omega arith in
-    pe
-    ∙ at-word j k l v ms b c d pk pc pl pd
-    ∙ ap (laid_at j (tail (v ∷ ms))) start
-    ∙ ap (λ n. laid_at n (tail (v ∷ ms)) (laid (124 ∷ w) m)) place
-    ∙ laid-behind (124 ∷ w) (tail (v ∷ ms)) m
-    ∙ ap (λ t. laid t m) (sym (tail-words w (v ∷ ms)))
+-- memory t is m with the text xs laid over it, which ends at e
+pub record Written (m xs : List ℕ) (e : ℕ) (t : List ℕ) : Type 0 where
+  pub end : e ≡ length xs
+  pub text : t ≡ laid xs m
 
-pub joined_long : (w v : List ℕ) (ms : List (List ℕ)) → length (barred (unwords (w ∷ v ∷ ms))) ≡ 1 + (length w + (1 + (length v + length (tail ms))))
-joined_long w v ms = omega (arith, ap length (tail-words w (v ∷ ms)), length-append w (tail (v ∷ ms)), tail-long v ms)
+-- one part more behind it
+pub written_more : {m xs t : List ℕ} {e : ℕ} → Written m xs e t → (ys : List ℕ) (f : ℕ) (u : List ℕ) → f ≡ e + length ys → u ≡ laid_at e ys t → Written m (xs ++ ys) f u
+written_more {m} {xs} {t} {e} h ys f u p q = record {
+  end = omega (arith, h.end, length-append xs ys);
+  text = q ∙ ap (laid_at e ys) h.text ∙ ap (λ n. laid_at n ys (laid xs m)) h.end ∙ laid-behind xs ys m;
+}
+
+-- the bar, the first word, a space, the second word, and what stands behind them
+pub whole : (w v : List ℕ) (ms : List (List ℕ)) → (124 ∷ []) ++ w ++ (32 ∷ []) ++ v ++ tail ms ≡ barred (unwords (w ∷ v ∷ ms))
+whole w v ms = ap (λ l. 124 ∷ l) (append_assoc (w ++ 32 ∷ []) v (tail ms) ∙ append_assoc w (32 ∷ []) (v ++ tail ms)) ∙ sym (tail-words w (v ∷ ms))

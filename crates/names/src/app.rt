@@ -1,5 +1,5 @@
 // The name of an application: a part of the line where nothing was joined, else of lent scratch memory.
-ghost use Rattle.std.specs.Prelude.{◌≡◌, ℕ, ◌+◌, ◌^◌, ◌<◌, ◌≤◌, List, ◌∷◌, ◌++◌, length, is_some, if◌then◌else◌, MatchOption};
+ghost use Rattle.std.specs.Prelude.{◌≡◌, ◌+◌, ◌^◌, ◌<◌, ◌∷◌, length, is_some, if◌then◌else◌, MatchOption};
 ghost use Rattle.std.specs.Option.{option_map};
 ghost use Rattle.words.specs.Words.{ahead, first_of, rest_of};
 ghost use Rattle.names.specs.AppNames.{NameFound, named, children, child_words, name_read, name_said, placed_in, scratch_after};
@@ -38,6 +38,7 @@ struct Joiner<'s> {
 }
 
 impl<'s> Joiner<'s> {
+    // Writes `part` behind what is there.
     fn put(&mut self, part: &[u8])
         requires { self.old.end + length part.now < 2 ^ 64 }
         ensures same { self.new.scratch.ghost_name ≡ self.old.scratch.ghost_name }
@@ -60,10 +61,7 @@ fn next_of_name<'a>(words: &mut Words<'a>) -> Option<&'a [u8]>
     ensures number { words.new.number ≡ words.old.number + (if is_some result then 1 else 0) }
 {
     let mut look = *words;
-    let word = look.next()?;
-    if is_id(word) {
-        return None;
-    }
+    let word = look.next().filter(|word| !is_id(word))?;
     *words = look;
     Some(word)
 }

@@ -1,5 +1,5 @@
 // The name of a quantifier with its variable count.
-ghost use Rattle.std.specs.Prelude.{◌≡◌, ◌+◌, ◌^◌, not, ◌&&◌, length, if◌then◌else◌, nat_lt, Some};
+ghost use Rattle.std.specs.Prelude.{◌≡◌, ◌+◌, not, ◌&&◌, length, if◌then◌else◌, nat_lt, Some};
 ghost use Rattle.words.specs.declared.joined.Bars.TheVariants.{Bare, Both};
 ghost use Rattle.words.specs.Words.{ahead};
 ghost use Rattle.names.specs.Messages.{qid_message};

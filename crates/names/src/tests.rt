@@ -39,10 +39,7 @@ fn applications(rt: HostRuntime) {
 // What is told of a joined name, where scratch is too short for it.
 fn cut_short(scratch: &mut [u8]) -> Option<usize> {
     let mut words = at_name(b"[mk-app] #5 foo bar #1");
-    match parse_app_name(&mut words, scratch) {
-        Some(name) => name.joined,
-        None => None,
-    }
+    parse_app_name(&mut words, scratch)?.joined
 }
 
 #[test]
@@ -61,21 +58,14 @@ fn short_scratch(rt: HostRuntime) {
 // Whether the line has this name and count, in this style.
 fn quant(line: &[u8], new_style: bool, span: &[u8], bars: Bars, count: u32) -> bool {
     let mut words = at_name(line);
-    match parse_qid(&mut words, new_style) {
-        Err(_) => false,
-        Ok(qid) => {
-            let name = qid.name;
-            name.span == span && name.bars == bars && qid.num_vars == count
-        }
-    }
+    parse_qid(&mut words, new_style).is_ok_and(|qid| qid.name.span == span
+        && qid.name.bars == bars
+        && qid.num_vars == count)
 }
 
 fn quant_fault(line: &[u8], new_style: bool) -> Option<QidFault> {
     let mut words = at_name(line);
-    match parse_qid(&mut words, new_style) {
-        Err(fault) => Some(fault),
-        Ok(_) => None,
-    }
+    parse_qid(&mut words, new_style).err()
 }
 
 #[test]
@@ -97,11 +87,16 @@ fn quantifiers(rt: HostRuntime) {
 }
 
 #[test]
-fn faults_print(rt: HostRuntime) -> Result<(), Fail> {
-    let missing = QidFault::Missing.to_string(rt.alloc())?;
-    assert!(rt; missing.as_str() == "no name with a count");
-    let count = QidFault::Count(3, NumberFault::NotDigit(0)).to_string(rt.alloc())?;
-    assert!(rt; count.as_str() == "word 3 is no count: it has a byte that is no digit at place 0");
+fn faults_are_told(rt: HostRuntime) -> Result<(), Fail> {
+    let fault = QidFault::Count(3, NumberFault::NotDigit(0));
+    let text = format!(in rt.alloc(); "{fault}")?;
+    assert_eq!(rt;
+        text.as_str(),
+        "word 3 is no count: it has a byte that is no digit at place 0"
+    );
+    let missing = QidFault::Missing;
+    let text = format!(in rt.alloc(); "{missing}")?;
+    assert_eq!(rt; text.as_str(), "no name with a count");
     Ok(())
 }
 

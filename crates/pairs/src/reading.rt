@@ -57,13 +57,12 @@ fn missing_at(words: &Words<'_>, found: Form) -> usize
 }
 
 // Reads the pair that comes next, and takes off its brackets. `form` is the form of the first pair, where that is known; with
-// `forms_equal` this pair must have it too: a yes or no of its own, as the rules name it. `words` moves behind the pair, and stays where
+// `forms_equal` this pair must have it too: a yes or no of its own, by a rule of the project. `words` moves behind the pair, and stays where
 // there is a fault.
 #[tactic(auto, using(crate::proofs::Written::pairs_back))]
 pub fn read_pair<'a>(
     words: &mut Words<'a>,
     form: Option<Form>,
-    // a yes or no beside the form, as a rule of the project has it
     forms_equal: bool,
 ) -> Result<Pair<'a>, PairRefusal>
     ensures value { pair_answer result ≡ read_pair form forms_equal words.old.number (ahead words.old.left) }

@@ -1,8 +1,8 @@
 // A cursor over the words of a line. The words are parts of the line.
-ghost use Rattle.std.specs.Prelude.{◌≡◌, ℕ, ◌+◌, ◌^◌, ◌<◌, ◌≤◌, not, length, drop, is_some, IfSome, if◌then◌else◌};
+ghost use Rattle.std.specs.Prelude.{◌≡◌, ◌+◌, ◌^◌, ◌≤◌, length, drop, is_some, IfSome, if◌then◌else◌};
 ghost use Rattle.std.specs.Option.{option_map};
 ghost use Rattle.words.specs.Joined.{WordsApart, unwords};
-ghost use Rattle.words.specs.Words.{separates, words_of, ahead, first_of, rest_of, front_of, size_left};
+ghost use Rattle.words.specs.Words.{separates, words_of, ahead, front_of, size_left};
 
 mod next;
 

@@ -71,6 +71,15 @@ fn kinds_are_exact(rt: HostRuntime) {
 }
 
 #[test]
+fn kinds_print_their_text(rt: HostRuntime) -> Result<(), Fail> {
+    let kind = LineKind::AttachVarNames;
+    let text = format!(in rt.alloc(); "{kind}")?;
+    assert_eq!(rt; text.as_str(), "[attach-var-names]");
+    assert_eq!(rt; usize::from(kind), 5);
+    Ok(())
+}
+
+#[test]
 fn the_bound_is_the_last_length_read(rt: HostRuntime) {
     let line = [b'x'; 65_537];
     assert!(rt; !too_long(&line[0..65_536]));

@@ -1,4 +1,4 @@
-// The words of a line one by one.
+// The words of a line one by one: none once the last is given.
 ghost use Rattle.std.specs.Iterator.{item_count};
 ghost use Rattle.words.specs.Cursor.{GivesWord};
 ghost use Rattle.words.specs.Words.{ahead};

@@ -1,13 +1,13 @@
-use Rattle.std.proofs.Common.{◌≡◌, ℕ, ◌+◌, ◌≤◌, List, [], ◌∷◌, length, Some, sym, ap, ◌∙◌, arith, rules}
+use Rattle.std.proofs.Common.{◌≡◌, ℕ, ◌+◌, ◌≤◌, List, [], ◌∷◌, length, Some, sym, refl, ap, ◌∙◌, subst, arith, rules}
 use Rattle.words.specs.Words.{ahead}
 use Rattle.words.specs.Joined.{unwords}
 use Rattle.words.specs.Laid.{laid}
 use Rattle.names.specs.AppNames.{NameRead, named, name_read, name_long, scratch_after, or_else, joined_name, barred}
 use Rattle.names.specs.Writing.{tail}
 use Rattle.words.proofs.Cut.{from_first, none_first}
-use Rattle.names.proofs.Layers.{no_name, name_found, name_size, whole-laid, tail-long, joined_long}
+use Rattle.names.proofs.Layers.{no_name, name_found, name_size, Written, written_more, whole, tail-long}
 use Rattle.names.proofs.app.parse_app_name.Goals as goal
-use Rattle.names.proofs.app.parse_app_name.Goals.{In_ok-first, In-Some}
+use Rattle.names.proofs.app.parse_app_name.Goals.{In_ok-first, In-Some, After-join_rest}
 
 abbrev name_of : List ℕ → List (List ℕ) → NameRead
 name_of w l = record { first = w; joined = name_long (joined_name w l) }
@@ -46,29 +46,31 @@ returns-in_default-clause-number c =
     let ws = ahead c.next.new.self.left in
     omega (arith, told.number, c.in_ok-first.ensures.steps.number, ap length (told.ended ∙ no_name ws (none_first (named ws) told.word)), ap length e)
 
-pub returns-clause-value : goal.returns-clause-value
-returns-clause-value c =
-    let e = first_word (goal.at.returns-clause-value c).In_ok-first in
+-- the whole name is written
+all : (c : After-join_rest) → Written c.args.scratch.now (barred (unwords (c.in_ok-first.first.now ∷ c.in-Some.second.now ∷ named (ahead c.next_of_name.new.words.left)))) c.join_rest.new.out.end c.join_rest.new.out.scratch.now
+all c =
     let w = c.in_ok-first.first.now in
     let v = c.in-Some.second.now in
     let ms = named (ahead c.next_of_name.new.words.left) in
-    let two = second_word (goal.at.returns-clause-value c).In-Some in
-    let long : c.join_rest.new.out.end ≡ length (barred (unwords (w ∷ v ∷ ms))) = omega (arith, joined_long w v ms) in
-    ap (λ n. Some (name_length w n)) long ∙ sym (ap name_read e ∙ ap (λ l. Some (name_of w l)) two)
+    let start : Written c.args.scratch.now [] 0 c.args.scratch.now = record { end = refl; text = refl } in
+    let bar = written_more start (124 ∷ []) _ _ c.put.ensures.end c.put.ensures.written in
+    let one = written_more bar w _ _ c.put-2.ensures.end c.put-2.ensures.written in
+    let space = written_more one (32 ∷ []) _ _ c.put-3.ensures.end c.put-3.ensures.written in
+    let two = written_more space v _ _ c.put-4.ensures.end c.put-4.ensures.written in
+    subst (λ xs. Written c.args.scratch.now xs c.join_rest.new.out.end c.join_rest.new.out.scratch.now) (whole w v ms) (written_more two (tail ms) _ _ c.join_rest.ensures.end c.join_rest.ensures.written)
+
+pub returns-clause-value : goal.returns-clause-value
+returns-clause-value c =
+    let i = goal.at.returns-clause-value c in
+    let w = c.in_ok-first.first.now in
+    ap (λ n. Some (name_length w n)) (all i.After-join_rest).end ∙ sym (ap name_read (first_word i.In_ok-first) ∙ ap (λ l. Some (name_of w l)) (second_word i.In-Some))
 
 pub returns-clause-written : goal.returns-clause-written
 returns-clause-written c =
-    let e = first_word (goal.at.returns-clause-written c).In_ok-first in
-    let w = c.in_ok-first.first.now in
-    let v = c.in-Some.second.now in
-    let ms = named (ahead c.next_of_name.new.words.left) in
+    let i = goal.at.returns-clause-written c in
     let m = c.args.scratch.now in
-    let two = second_word (goal.at.returns-clause-written c).In-Some in
-    let all : c.join_rest.new.out.scratch.now ≡ scratch_after (ahead c.args.words.now.left) m =
-    whole-laid w v ms m c.put.new.self.scratch.now c.put-2.new.self.scratch.now c.put-3.new.self.scratch.now c.put-4.new.self.scratch.now c.join_rest.new.out.scratch.now
-    c.put.new.self.end c.put-2.new.self.end c.put-3.new.self.end c.put-4.new.self.end
-    c.put.ensures.end c.put.ensures.written c.put-2.ensures.end c.put-2.ensures.written c.put-3.ensures.end c.put-3.ensures.written c.put-4.ensures.end c.put-4.ensures.written c.join_rest.ensures.written
-    ∙ sym (ap (λ l. scratch_after l m) e ∙ ap (λ l. laid (or_else [] (joined_name w l)) m) two)
+    let last : c.join_rest.new.out.scratch.now ≡ scratch_after (ahead c.args.words.now.left) m =
+    (all i.After-join_rest).text ∙ sym (ap (λ l. scratch_after l m) (first_word i.In_ok-first) ∙ ap (λ l. laid (or_else [] (joined_name c.in_ok-first.first.now l)) m) (second_word i.In-Some))
     in
     search rules
 
