@@ -202,6 +202,7 @@ fn over_front(rt: &HostRuntime, wanted: IndexOptions, bytes: &[u8]) -> io::Resul
 
 // The command `index`.
 pub(crate) fn run<'a>(rt: &HostRuntime, wanted: IndexOptions) -> Result<(), Failure<'a>> {
+    // matched: a `map_err` to an error whose lifetime neither argument nor capture names is not covered yet
     match input::read_stdin(rt) {
         Err(why) => Err(Failure::StandardInput(why)),
         Ok(bytes) => match over_front(rt, wanted, &bytes) {

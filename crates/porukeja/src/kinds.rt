@@ -110,6 +110,7 @@ pub(crate) fn run<'a>(rt: &HostRuntime, wanted: KindsOptions<'a>) -> Result<(), 
         wanted.path,
         why,
     ))?;
+    // matched: a `map_err` to an error whose lifetime neither argument nor capture names is not covered yet
     match print(rt, wanted, &bytes) {
         Err(why) => Err(Failure::Output(why)),
         Ok(()) => Ok(()),

@@ -22,6 +22,7 @@ fn arguments(rt: &HostRuntime) -> io::Result<Vec<String>> {
 
 fn obey<'a>(rt: &HostRuntime, words: &[&'a str]) -> Result<(), Failure<'a>> {
     match options::read(words)? {
+        // matched: a `map_err` to an error whose lifetime neither argument nor capture names is not covered yet
         Command::Help => match rt.print(USAGE) {
             Err(why) => Err(Failure::Output(why)),
             Ok(()) => Ok(()),
