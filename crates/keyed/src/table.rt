@@ -109,6 +109,7 @@ impl<'a, K: Key, V: Copy> SlotTable<'a, K, V> {
         let Some(at) = probe(self.used(), seed, key) else {
             return Err(NoRoom);
         };
+        // Read and then written: `replace` on an element of a type with an invariant is not covered yet.
         let old = self.slots[at].map(|(_, v)| v);
         self.slots[at] = Some((key, value));
         Ok(old)
