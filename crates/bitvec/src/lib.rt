@@ -67,16 +67,12 @@ impl Base {
         }
         let mut value: u128 = 0;
         for b in digits {
-            let Some(digit) = self.digit(*b) else {
-                return Err(BitVecFault::Unreadable);
-            };
+            let digit = self.digit(*b).ok_or(BitVecFault::Unreadable)?;
             value = value
                 .saturating_mul(u128::from(self.radix()))
                 .saturating_add(u128::from(digit));
         }
-        let Ok(value) = u64::try_from(value) else {
-            return Err(BitVecFault::TooLarge);
-        };
+        let value = u64::try_from(value).map_err(|_| BitVecFault::TooLarge)?;
         let bits = digits.len() as u128 * self.bits();
         Ok(BitVec { value, bits })
     }
