@@ -67,6 +67,7 @@ fn note(found: &mut Census, line: &[u8], bad: &mut [BadId])
                 match word_1(line) {
                     Ok(_) => found.good_ids += 1,
                     Err(cause) => {
+                        // tested by the place: what `get_mut` promises says nothing of the elements
                         if found.bad_ids < bad.len() {
                             bad[found.bad_ids] = BadId { line: at, cause };
                         }
