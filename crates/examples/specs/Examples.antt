@@ -1,5 +1,5 @@
 -- Worked examples of the readers, computed over their definitions. Assumes nothing.
-use Rattle.std.specs.Prelude.{◌≡◌, ℕ, true, false, List, [], ◌∷◌, Some, None, Ok, Err, codes}
+use Rattle.std.specs.Prelude.{◌≡◌, ℕ, true, false, List, [], ◌∷◌, Some, None, Ok, Err, codes, negsuc}
 use Rattle.ids.specs.declared.number.NumberFault.TheVariants.{Empty, NotDigit, TooLarge}
 use Rattle.ids.specs.declared.id.IdFault.TheVariants.{NoHash, Number}
 use Rattle.ids.specs.Numbers.{small}
@@ -11,6 +11,9 @@ use Rattle.names.specs.declared.quant.QidFault.TheVariants.{Missing, Count}
 use Rattle.names.specs.AppNames.{app_name, child_words}
 use Rattle.names.specs.QuantNames.{quant_read}
 use Rattle.names.specs.QuantKinds.{by_name, by_number, quant_kind}
+use Rattle.words.specs.Joined.{spaces}
+use Rattle.arith.specs.Values.{arith_value}
+use Rattle.bitvec.specs.BitVecs.{bit_vec}
 
 -- the words of a line from word 2 on
 abbrev pub from_word2 : List ℕ → List (List ℕ)
@@ -39,3 +42,5 @@ pub record ReaderExamples : Type 0 where
   pub no_count : quant_read false 2 (from_word2 (codes "[mk-quant] #9 a b")) ≡ Err Missing
   pub numbered : quant_kind (codes "k!12") ≡ by_number (codes "k") 12
   pub named : quant_kind (codes "k!x") ≡ by_name (codes "k!x")
+  pub minus_three_halves : arith_value (spaces (codes "(/ 6 (- 4))")) ≡ Ok (record { numer = negsuc 2; denom = 2 })
+  pub fifteen_in_eight_bits : bit_vec (spaces (codes "#x0F")) ≡ Ok (record { value = 15; bits = 8 })

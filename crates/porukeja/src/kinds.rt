@@ -92,24 +92,23 @@ fn print(rt: &HostRuntime, wanted: KindsOptions<'_>, bytes: &[u8]) -> io::Result
         line: 0,
         cause: IdCause::Missing,
     }; SHOWN];
-    let found = count_lines(bytes, wanted.mode, &mut bad);
+    let found = count_lines(bytes, wanted.trace.mode, &mut bad);
     summary(&mut out, &found)?;
     bad_ids(&mut out, &bad[..found.bad_ids.min(SHOWN)])?;
-    if cut_off(bytes, wanted.mode) {
+    if cut_off(bytes, wanted.trace.mode) {
         out.write_all(b"the last line has no LF: it is cut off and was left out\n")?;
     }
     if wanted.names {
-        all_names(&mut out, heap, Lines::of(bytes, wanted.mode))?;
+        all_names(&mut out, heap, Lines::of(bytes, wanted.trace.mode))?;
     }
     out.flush()
 }
 
 // The command `kinds`.
 pub(crate) fn run<'a>(rt: &HostRuntime, wanted: KindsOptions<'a>) -> Result<(), Failure<'a>> {
-    let bytes = input::read_file(rt, wanted.path, wanted.progress).map_err(|why| Failure::Trace(
-        wanted.path,
-        why,
-    ))?;
+    let bytes = input::read_file(rt, wanted.trace.path, wanted.trace.progress).map_err(
+        |why| Failure::Trace(wanted.trace.path, why),
+    )?;
     // matched: a `map_err` to an error whose lifetime neither argument nor capture names is not covered yet
     match print(rt, wanted, &bytes) {
         Err(why) => Err(Failure::Output(why)),

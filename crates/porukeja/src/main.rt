@@ -10,6 +10,7 @@ mod options;
 mod shown;
 #[cfg(test)]
 mod tests;
+mod values;
 
 use failure::Failure;
 use options::{Command, USAGE};
@@ -28,6 +29,7 @@ fn obey<'a>(rt: &HostRuntime, words: &[&'a str]) -> Result<(), Failure<'a>> {
             Ok(()) => Ok(()),
         },
         Command::Kinds(wanted) => kinds::run(rt, wanted),
+        Command::Values(wanted) => values::run(rt, wanted),
         Command::Index(wanted) => entering::run(rt, wanted),
     }
 }

@@ -13,6 +13,9 @@ usage: porukeja COMMAND
       --each-line   take every LF as the end of a line; without it a line goes on until an
                     LF before `[`, a blank line or the end, since names may hold LF
       --progress    say on stderr how much is read
+  porukeja values [OPTION..] TRACE  read the versions, values and variable names of a trace, each
+                                    line by itself, and say how many are refused by which number
+      --each-line, --progress   as above
   porukeja index [OPTION..]         enter and find identifiers, by commands on standard input,
                                     one a line: enter ID N, find ID, room ID
       --slots N     how many slots the table has (default 65536)
@@ -23,13 +26,19 @@ Lines are counted from 0. In texts that are printed, a space, a backslash and ev
 outside printable ASCII stand as \\xNN, and an empty text as \"\".
 ";
 
+// Which trace is read, and how.
+#[derive(Clone, Copy)]
+pub(crate) struct TraceOptions<'a> {
+    pub path: &'a str,
+    pub mode: LineMode,
+    pub progress: bool,
+}
+
 // What `kinds` is asked for.
 #[derive(Clone, Copy)]
 pub(crate) struct KindsOptions<'a> {
-    pub path: &'a str,
+    pub trace: TraceOptions<'a>,
     pub names: bool,
-    pub mode: LineMode,
-    pub progress: bool,
 }
 
 // What `index` is asked for.
@@ -43,6 +52,7 @@ pub(crate) struct IndexOptions {
 pub(crate) enum Command<'a> {
     Help,
     Kinds(KindsOptions<'a>),
+    Values(TraceOptions<'a>),
     Index(IndexOptions),
 }
 
@@ -74,14 +84,15 @@ impl<'a> fmt::Display for Misuse<'a> {
     }
 }
 
-fn read_kinds<'a>(words: &[&'a str]) -> Result<KindsOptions<'a>, Misuse<'a>> {
+// The options of a command that reads a trace; only `kinds` has `--names`.
+fn read_kinds<'a>(words: &[&'a str], has_names: bool) -> Result<KindsOptions<'a>, Misuse<'a>> {
     let mut path = None;
     let mut names = false;
     let mut mode = LineMode::Joined;
     let mut progress = false;
     for word in words {
         match *word {
-            "--names" => names = true,
+            "--names" if has_names => names = true,
             "--each-line" => mode = LineMode::EachLine,
             "--progress" => progress = true,
             option if option.starts_with("-") => return Err(Misuse::UnknownOption(option)),
@@ -89,11 +100,14 @@ fn read_kinds<'a>(words: &[&'a str]) -> Result<KindsOptions<'a>, Misuse<'a>> {
             first => path = Some(first),
         }
     }
+    let path = path.ok_or(Misuse::NoTrace)?;
     Ok(KindsOptions {
-        path: path.ok_or(Misuse::NoTrace)?,
+        trace: TraceOptions {
+            path,
+            mode,
+            progress,
+        },
         names,
-        mode,
-        progress,
     })
 }
 
@@ -124,7 +138,8 @@ pub(crate) fn read<'a>(words: &[&'a str]) -> Result<Command<'a>, Misuse<'a>> {
     let (command, rest) = words.split_first().ok_or(Misuse::NoCommand)?;
     match *command {
         "help" | "--help" | "-h" => Ok(Command::Help),
-        "kinds" => Ok(Command::Kinds(read_kinds(rest)?)),
+        "kinds" => Ok(Command::Kinds(read_kinds(rest, true)?)),
+        "values" => Ok(Command::Values(read_kinds(rest, false)?.trace)),
         "index" => Ok(Command::Index(read_index(rest)?)),
         other => Err(Misuse::UnknownCommand(other)),
     }

@@ -1,0 +1,41 @@
+use super::*;
+
+// Whether two values of theories have one meaning.
+fn alike(theory: &[u8], value: &[u8], other: &[u8], text: &[u8]) -> Result<bool, MeaningFault> {
+    Ok(Meaning::read(theory, value)? == Meaning::read(other, text)?)
+}
+
+// The number that a value is refused by, if it is.
+fn number(theory: &[u8], value: &[u8]) -> Option<u8> {
+    Meaning::read(theory, value)
+        .err()
+        .map(|fault| u8::from(fault))
+}
+
+#[test]
+fn meanings_are_compared(rt: HostRuntime) {
+    assert!(rt;
+        matches!(
+            alike(b"arith", b"(/ 6 4)", b"arith", b"(/ 3 2) and more"),
+            Ok(true)
+        )
+    );
+    assert!(rt; matches!(alike(b"arith", b"1", b"arith", b"2"), Ok(false)));
+    assert!(rt; matches!(alike(b"bv", b"#x0F", b"bv", b"#b00001111"), Ok(true)));
+    assert!(rt; matches!(alike(b"bv", b"#x0F", b"bv", b"#b1111"), Ok(false)));
+    assert!(rt; matches!(alike(b"seq", b"a\tb", b"seq", b"a b"), Ok(true)));
+    assert!(rt; matches!(alike(b"seq", b"a b", b"seq", b"a  b"), Ok(false)));
+    assert!(rt; matches!(alike(b"seq", b"", b"fp", b""), Ok(false)));
+    assert!(rt; matches!(alike(b"arith", b"15", b"bv", b"#x0f"), Ok(false)));
+}
+
+#[test]
+fn refusals_have_numbers(rt: HostRuntime) {
+    assert_eq!(rt; number(b"arith", b""), Some(10));
+    assert_eq!(rt; number(b"arith", b"(/ 1 0)"), Some(11));
+    assert_eq!(rt; number(b"arith", b"2147483648"), Some(12));
+    assert_eq!(rt; number(b"bv", b""), Some(10));
+    assert_eq!(rt; number(b"bv", b"#x0F "), Some(10));
+    assert_eq!(rt; number(b"bv", b"#x10000000000000000"), Some(12));
+    assert_eq!(rt; number(b"seq", b""), None);
+}
