@@ -1,7 +1,8 @@
 -- Every expression that stays within the bounds is read. Assumes nothing.
-use Rattle.std.proofs.Common.{◌≡◌, ℕ, zero, suc, ◌+◌, ◌-◌, ◌*◌, ◌<◌, ◌≤◌, true, false, eqb, leb, List, [], ◌∷◌, ◌++◌, length, get_or, Some, Ok, sym, refl, ap, ◌∙◌, subst, arith}
+use Rattle.std.proofs.Common.{◌≡◌, ℕ, zero, suc, ◌+◌, ◌-◌, ◌<◌, ◌≤◌, true, false, eqb, List, [], ◌∷◌, ◌++◌, length, get_or, Some, Ok, sym, refl, ap, ◌∙◌, subst, arith}
 use Rattle.std.proofs.lemmas.List.{append_assoc, length-append}
-use Rattle.std.proofs.lemmas.Bool.{cond-true, cond-false, and_from, le-leb}
+use Rattle.std.proofs.lemmas.Bool.{cond-true, cond-false}
+use Rattle.std.proofs.lemmas.Bool.Decides.{nat_tests}
 use Rattle.fraction.specs.Ratios.{Ratio, whole, negative}
 use Rattle.fraction.specs.Fractions.{lowest}
 use Rattle.arith.specs.declared.Operator.{Operator}
@@ -9,30 +10,20 @@ use Rattle.arith.specs.declared.Operator.TheVariants.{Sum, Difference, Product, 
 use Rattle.arith.specs.Values.{Read, Tally, none, digit, digits_after, literal_of, sign_of, value_at, bracket, arguments, combine, counted, fold_in, at_close, then, worked}
 use Rattle.arith.specs.Expressions.{Figure, Numeral, figure, more, amount_of, spelled, Many, sums, products, symbol, Expr, numeral, many, opposite, less, divided, Args, only, also, written, listed, nesting, nesting_all, join, worth, worth_all, Is, Stays, StaysAll}
 use Rattle.arith.specs.Laws.{Clear, Ends}
-use Rattle.arith.proofs.Steps.{value_digit}
+use Rattle.arith.proofs.Steps.{digits_stop, value_digit}
 use Rattle.arith.proofs.Worths.{join-needs, less_needs, over_needs, opposite_is, is-lowest}
 
 -- ---- numerals
 pub figure_digit : (c : Figure) → digit (48 + c.amount) ≡ true
-figure_digit c = let h = c.small in and_from (leb 48 (48 + c.amount)) (leb (48 + c.amount) 57) (le-leb 48 (48 + c.amount) (omega arith)) (le-leb (48 + c.amount) 57 (omega arith))
+figure_digit c = let h = c.small in grind (arith, nat_tests)
 
 digits_take : (n : Numeral) (w : List ℕ) → digits_after 0 (spelled n ++ w) ≡ digits_after (amount_of n) w
-digits_take (figure c) w = cond-true (digit (48 + c.amount)) _ _ (figure_digit c) ∙ ap (λ k. digits_after k w) (amount c.amount)
-  where
-    amount : (a : ℕ) → 0 * 10 + (48 + a - 48) ≡ a
-    amount a = omega arith
+digits_take (figure c) w = cond-true (digit (48 + c.amount)) _ _ (figure_digit c) ∙ ap (λ k. digits_after k w) (omega arith)
 digits_take (more n c) w =
     ap (digits_after 0) (append_assoc (spelled n) ((48 + c.amount) ∷ []) w)
     ∙ digits_take n ((48 + c.amount) ∷ w)
     ∙ cond-true (digit (48 + c.amount)) _ _ (figure_digit c)
-    ∙ ap (λ k. digits_after k w) (amount (amount_of n) c.amount)
-  where
-    amount : (m a : ℕ) → m * 10 + (48 + a - 48) ≡ m * 10 + a
-    amount m a = omega arith
-
-digits_stop : (n : ℕ) (w : List ℕ) → Clear w → digits_after n w ≡ (n, w)
-digits_stop n [] c = refl
-digits_stop n (b ∷ bs) c = cond-false (digit b) _ _ c
+    ∙ ap (λ k. digits_after k w) (omega arith)
 
 starts : (n : Numeral) (w : List ℕ) → (0 < length (spelled n ++ w)) × (digit (get_or (spelled n ++ w) 0 0) ≡ true)
 starts (figure c) w = (omega arith, figure_digit c)

@@ -1,7 +1,8 @@
 -- What is read is an expression, and the answer its number. Assumes nothing.
 use Rattle.std.proofs.Common.{◌≡◌, ℕ, zero, suc, ◌+◌, ◌-◌, ◌*◌, ◌≤◌, Bool, true, false, cond, eqb, List, [], ◌∷◌, ◌++◌, length, IfOk, Some, None, Ok, Err, Option, Result, sym, refl, ap, ◌∙◌, subst, arith}
 use Rattle.std.proofs.lemmas.List.{append_assoc}
-use Rattle.std.proofs.lemmas.Bool.{cond-true, cond-false, eqb-true, ne_eqb}
+use Rattle.std.proofs.lemmas.Bool.{cond-true, cond-false, eqb-true}
+use Rattle.std.proofs.lemmas.Bool.Decides.{nat_tests}
 use Rattle.fraction.specs.declared.FractionFault.{FractionFault}
 use Rattle.fraction.specs.Ratios.{Ratio, whole, negative}
 use Rattle.fraction.specs.Fractions.{lowest, subtract, divide}
@@ -19,10 +20,10 @@ use Rattle.arith.proofs.Complete.{taken, op_of, count_of_all, combine-many, clos
 -- ---- what an answer tells of the steps before it
 then-out : {X Y : Type 0} (x : Result X ValueFault) (k : X → Result Y ValueFault) (y : Y) → then x k ≡ Ok y → (a : X) × (x ≡ Ok a) × (k a ≡ Ok y)
 then-out (Ok a) k y e = (a, refl, e)
-then-out (Err r) k y e = let z : ◌≡◌ {A = ℕ} 0 1 = cc in absurd (omega arith)
+then-out (Err r) k y e = absurd (cc)
 
 refused : {X : Type 0} (r : ValueFault) (x : X) → ◌≡◌ {A = Result X ValueFault} (Err r) (Ok x) → ⊥
-refused r x e = let z : ◌≡◌ {A = ℕ} 0 1 = cc in omega arith
+refused r x e = cc
 
 ok_out : {X : Type 0} (x y : X) → ◌≡◌ {A = Result X ValueFault} (Ok x) (Ok y) → x ≡ y
 ok_out x y e = cc
@@ -32,7 +33,7 @@ pair_out {X} {Y} a c b d e = let same : ◌≡◌ {A = X × Y} (a, b) (c, d) = c
 
 worked-out : (x : Result Ratio FractionFault) (f : Ratio) → worked x ≡ Ok f → x ≡ Ok f
 worked-out (Ok q) f e = let same : q ≡ f = cc in ap Ok same
-worked-out (Err r) f e = let z : ◌≡◌ {A = ℕ} 0 1 = cc in absurd (omega arith)
+worked-out (Err r) f e = absurd (cc)
 
 counted-out : (n : ℕ) (x : Result Ratio ValueFault) (s : Tally) → counted n x ≡ Ok s → (v : Ratio) × (x ≡ Ok v) × (record { number = n + 1; result = Some v } ≡ s)
 counted-out n (Ok v) s e = (v, refl, cc)
@@ -85,12 +86,14 @@ bad_other n (Some p) q h e = refused Unreadable q e
 
 bad_quotient : (n : ℕ) (r : Option Ratio) (q : Ratio) → 3 ≤ n → at_close Quotient n r ≡ Ok q → ⊥
 bad_quotient n None q h e = refused Unreadable q e
-bad_quotient n (Some p) q h e = refused Unreadable q (sym (cond-false (eqb n 2) _ _ (ne_eqb n 2 (λ z. omega arith))) ∙ e)
+bad_quotient n (Some p) q h e = let other : eqb n 2 ≡ false = grind (arith, nat_tests) in refused Unreadable q (sym (cond-false _ _ _ other) ∙ e)
 
 bad_difference : (n : ℕ) (r : Option Ratio) (q : Ratio) → 3 ≤ n → at_close Difference n r ≡ Ok q → ⊥
 bad_difference n None q h e = refused Unreadable q e
 bad_difference n (Some p) q h e =
-    refused Unreadable q (sym (cond-false (eqb n 1) _ _ (ne_eqb n 1 (λ z. omega arith)) ∙ cond-false (eqb n 2) _ _ (ne_eqb n 2 (λ z. omega arith))) ∙ e)
+    let one : eqb n 1 ≡ false = grind (arith, nat_tests) in
+    let two : eqb n 2 ≡ false = grind (arith, nat_tests) in
+    refused Unreadable q (sym (cond-false _ _ _ one ∙ cond-false _ _ _ two) ∙ e)
 
 -- ---- what was found at the front of t: an expression, and w after it
 pub record Found (d : ℕ) (t : List ℕ) (f : Ratio) (w : List ℕ) : Type 0 where
@@ -154,7 +157,7 @@ moved : (d : ℕ) (m : Many) (t u : List ℕ) (q : Ratio) (w : List ℕ) → t �
 moved d m t u q w e r = record { args = r.args; begins = e ∙ r.begins; shallow = r.shallow; stays = r.stays; number = r.number }
 
 cut_joins : (bs : List ℕ) (p : List ℕ × List ℕ) → cut_at_space bs ≡ Some p → bs ≡ p.0 ++ p.1
-cut_joins [] p e = let z : ◌≡◌ {A = ℕ} 0 1 = cc in absurd (omega arith)
+cut_joins [] p e = absurd (cc)
 cut_joins (b ∷ bs) p e = by (eqb b 32) (cut_at_space bs) refl (cut_joins bs) e
   where
     Some-out : (x y : List ℕ × List ℕ) → ◌≡◌ {A = Option (List ℕ × List ℕ)} (Some x) (Some y) → x ≡ y
@@ -163,7 +166,7 @@ cut_joins (b ∷ bs) p e = by (eqb b 32) (cut_at_space bs) refl (cut_joins bs) e
     by : (t : Bool) (o : Option (List ℕ × List ℕ)) → cut_at_space bs ≡ o → ((q : List ℕ × List ℕ) → cut_at_space bs ≡ Some q → bs ≡ q.0 ++ q.1)
         → cond t (Some ([], b ∷ bs)) (onto b o) ≡ Some p → b ∷ bs ≡ p.0 ++ p.1
     by true o h again e = ap (λ x. x.0 ++ x.1) (Some-out ([], b ∷ bs) p e)
-    by false None h again e = let z : ◌≡◌ {A = ℕ} 0 1 = cc in absurd (omega arith)
+    by false None h again e = absurd (cc)
     by false (Some q) h again e = ap (λ l. b ∷ l) (again q h) ∙ ap (λ x. x.0 ++ x.1) (Some-out (b ∷ q.0, q.1) p e)
 
 module _ (d : ℕ) (sound : (t : List ℕ) (f : Ratio) (w : List ℕ) → value_at d t ≡ Ok (f, w) → Found d t f w) where

@@ -1,47 +1,28 @@
 -- The steps of the reader of values. Assumes nothing.
-use Rattle.std.proofs.Common.{◌≡◌, ℕ, zero, suc, ◌+◌, ◌-◌, ◌*◌, ◌^◌, ◌<◌, ◌≤◌, min, true, false, eqb, leb, List, [], ◌∷◌, length, get_or, take, drop, IfOk, Some, None, Ok, Err, Result, sym, refl, ap, ◌∙◌, subst, ⊎_elim, arith}
-use Rattle.std.proofs.lemmas.List.{at_drop_more, at_drop_all, drop_all, drop_more}
-use Rattle.std.proofs.lemmas.Bool.{eq-eqb, ne_eqb, cond-true, cond-false, and_parts, leb-true, cases_lt}
-use Rattle.fraction.specs.Ratios.{whole}
+use Rattle.std.proofs.Common.{◌≡◌, ℕ, zero, suc, ◌+◌, ◌-◌, ◌*◌, ◌^◌, ◌<◌, ◌≤◌, min, true, false, cond, not, eqb, leb, ltb, List, [], ◌∷◌, length, get_or, take, drop, Bool, Some, None, Ok, Err, sym, refl, ap, ◌∙◌, ⊎_elim, arith}
+use Rattle.std.specs.Option.{option_map}
+use Rattle.std.proofs.lemmas.List.{take_rest, length-drop, length-map}
+use Rattle.std.specs.List.{position, position_or_len}
+use Rattle.std.proofs.lemmas.Bool.{cases_lt, lt-ltb, le-ltb, and_parts, leb-true, cond-true, cond-false}
+use Rattle.std.proofs.lemmas.Bool.Decides.{nat_tests}
+use Rattle.fraction.specs.Ratios.{Ratio, whole}
 use Rattle.fraction.specs.Fractions.{lowest}
 use Rattle.fraction.proofs.Whole.{lowest-large}
+use Rattle.words.specs.Words.{separates}
+use Rattle.words.specs.Joined.{as_space, spaces}
 use Rattle.arith.specs.declared.Operator.{Operator}
-use Rattle.arith.specs.declared.Reading.{Reading}
 use Rattle.arith.specs.declared.ValueFault.{ValueFault}
-use Rattle.arith.specs.declared.ValueFault.TheVariants.{Unreadable, TooDeep}
-use Rattle.arith.specs.Answers.{read_in}
-use Rattle.arith.specs.Values.{Read, Tally, digit, digits_after, literal_of, cut_at_space, onto, value_at, bracket, arguments, fold_in, at_close, then}
-
--- ---- the first space
-abbrev pub Free : List ℕ → ℕ → Type 0
-Free v n = (k : ℕ) → k < n → get_or v k 0 ≡ 32 → ⊥
-
-later : (b : ℕ) (bs : List ℕ) (n : ℕ) → Free (b ∷ bs) (suc n) → Free bs n
-later b bs n free k lt e = free (suc k) (omega arith) e
-
-pub cut_found : (v : List ℕ) (i : ℕ) → i < length v → get_or v i 0 ≡ 32 → Free v i → cut_at_space v ≡ Some (take i v, drop i v)
-cut_found [] i lt e free = absurd (omega arith)
-cut_found (b ∷ bs) zero lt e free = cond-true (eqb b 32) _ _ (eq-eqb b 32 e)
-cut_found (b ∷ bs) (suc i) lt e free =
-    cond-false (eqb b 32) _ _ (ne_eqb b 32 (free 0 (omega arith))) ∙ ap (onto b) (cut_found bs i (omega arith) e (later b bs i free))
-
-pub cut_none : (v : List ℕ) → Free v (length v) → cut_at_space v ≡ None
-cut_none [] free = refl
-cut_none (b ∷ bs) free =
-    cond-false (eqb b 32) _ _ (ne_eqb b 32 (free 0 (omega arith))) ∙ ap (onto b) (cut_none bs (later b bs (length bs) free))
+use Rattle.arith.specs.Laws.{Clear}
+use Rattle.arith.specs.Values.{Read, Tally, none, operator_of, digit, digits_after, literal_of, onto, cut_at_space, value_at, bracket, arguments, fold_in, then, worked}
+use Rattle.arith.proofs.Spaced.{front, space_operator}
 
 -- ---- digits
-pub digits_yes : (n : ℕ) (v : List ℕ) (i : ℕ) → i < length v → digit (get_or v i 0) ≡ true → digits_after n (drop i v) ≡ digits_after (n * 10 + (get_or v i 0 - 48)) (drop (i + 1) v)
-digits_yes n v i h d = at_drop_more (digits_after n) v i 0 h ∙ cond-true (digit (get_or v i 0)) _ _ d
-
-pub digits_no : (n : ℕ) (v : List ℕ) (i : ℕ) → i < length v → digit (get_or v i 0) ≡ false → digits_after n (drop i v) ≡ (n, drop i v)
-digits_no n v i h d = at_drop_more (digits_after n) v i 0 h ∙ cond-false (digit (get_or v i 0)) _ _ d ∙ ap (λ l. (n, l)) (sym (drop_more v i 0 h))
-
-pub digits_end : (n : ℕ) (v : List ℕ) (i : ℕ) → length v ≤ i → digits_after n (drop i v) ≡ (n, drop i v)
-digits_end n v i h = rw (drop_all i v h)
-
 pub digit_low : (b : ℕ) → digit b ≡ true → (48 ≤ b) × (b ≤ 57)
 digit_low b e = let p = and_parts (leb 48 b) (leb b 57) e in (leb-true 48 b p.0, leb-true b 57 p.1)
+
+pub digits_stop : (n : ℕ) (w : List ℕ) → Clear w → digits_after n w ≡ (n, w)
+digits_stop n [] c = refl
+digits_stop n (b ∷ bs) c = cond-false (digit b) _ _ c
 
 -- a number past 64 bits may stay at the largest
 pub saturated_same : (m n : ℕ) → n ≡ min m (2 ^ 64 - 1) → lowest (whole n) ≡ lowest (whole m)
@@ -59,61 +40,112 @@ saturated_same m n e = ⊎_elim
     larger : 2 ^ 64 - 1 ≤ m → 2 ^ 63 ≤ m
     larger l = omega arith
 
+-- what a reader of digits knows with n for the figures before `rest`
+pub record Figures (n : ℕ) (rest text : List ℕ) : Type 0 where
+  pub exact : ℕ
+  pub near : n ≡ min exact (2 ^ 64 - 1)
+  pub same : digits_after exact (spaces rest) ≡ digits_after 0 (spaces text)
+  pub within : length rest ≤ length text
+
+pub figures_more : (n n' : ℕ) (rest text : List ℕ) → Figures n rest text → 0 < length rest → 48 ≤ get_or rest 0 0 → get_or rest 0 0 ≤ 57
+    → n' ≡ min (min (n * 10) (2 ^ 64 - 1) + (get_or rest 0 0 - 48)) (2 ^ 64 - 1) → Figures n' (take (length rest - 1) (drop 1 rest)) text
+figures_more n n' rest text r h low high e =
+    let b = get_or rest 0 0 in
+    let v = take (length rest - 1) (drop 1 rest) in
+    let seen : as_space b ≡ b = grind (arith, nat_tests) in
+    let is : digit b ≡ true = grind (arith, nat_tests) in
+    record {
+      exact = r.exact * 10 + (b - 48);
+      near = omega (arith, r.near);
+      same = sym (ap (digits_after r.exact) (front rest h) ∙ ap (λ x. digits_after r.exact (x ∷ spaces v)) seen ∙ cond-true (digit b) _ _ is) ∙ r.same;
+      within = omega (arith, ap length (take_rest rest 1), length-drop 1 rest, r.within);
+    }
+
+pub figures_end : (n : ℕ) (rest text : List ℕ) → Figures n rest text → Clear (spaces rest) → literal_of (digits_after 0 (spaces text)) ≡ then (worked (lowest (whole n))) (λ q. Ok (q, spaces rest))
+figures_end n rest text r c = ap literal_of (sym r.same ∙ digits_stop r.exact (spaces rest) c) ∙ ap (λ x. then (worked x) (λ q. Ok (q, spaces rest))) (sym (saturated_same r.exact n r.near))
+
+-- ---- the first space
+abbrev parts : List ℕ → ℕ → List ℕ × List ℕ
+parts w i = (spaces (take i w), spaces (drop i w))
+
+pub cut_at : (w : List ℕ) → cut_at_space (spaces w) ≡ option_map (parts w) (position separates w)
+cut_at [] = refl
+cut_at (b ∷ bs) = by (separates b) refl (cut_at bs)
+  where
+    more : (k j : ℕ) → j ≡ suc k → onto (as_space b) (option_map (parts bs) (cond (ltb k (length bs)) (Some k) None)) ≡ option_map (parts (b ∷ bs)) (cond (ltb j (suc (length bs))) (Some j) None)
+    more k j is = ⊎_elim
+        (λ l. ap (λ o. onto (as_space b) (option_map (parts bs) o)) (cond-true _ _ _ (lt-ltb k (length bs) l)) ∙ sym (ap (option_map (parts (b ∷ bs))) (cond-true _ _ _ (lt-ltb j (suc (length bs)) (omega arith)) ∙ ap Some is)))
+        (λ l. ap (λ o. onto (as_space b) (option_map (parts bs) o)) (cond-false _ _ _ (le-ltb k (length bs) l)) ∙ sym (ap (option_map (parts (b ∷ bs))) (cond-false _ _ _ (le-ltb j (suc (length bs)) (omega arith)))))
+        (cases_lt k (length bs))
+
+    by : (t : Bool) → separates b ≡ t → cut_at_space (spaces bs) ≡ option_map (parts bs) (position separates bs) → cut_at_space (spaces (b ∷ bs)) ≡ option_map (parts (b ∷ bs)) (position separates (b ∷ bs))
+    by true e h = grind (arith, nat_tests)
+    by false e h =
+        let k = position_or_len separates bs in
+        let seen : eqb (as_space b) 32 ≡ false = grind (arith, nat_tests) in
+        let next : position_or_len separates (b ∷ bs) ≡ suc k = ap (λ t. cond (not t) (1 + k) 0) e ∙ omega arith in
+        cond-false _ _ _ seen ∙ ap (onto (as_space b)) h ∙ more k (position_or_len separates (b ∷ bs)) next
+
 -- ---- brackets
-pub value_opens : (d : ℕ) (v : List ℕ) → 0 < d → 0 < length v → digit (get_or v 0 0) ≡ false → get_or v 0 0 ≡ 40 → value_at d v ≡ bracket (value_at (d - 1)) (cut_at_space (drop 1 v))
-value_opens d [] h l n e = absurd (omega arith)
-value_opens zero (b ∷ bs) h l n e = absurd (omega arith)
-value_opens (suc d) (b ∷ bs) h l n e =
-    let less : d ≡ suc d - 1 = omega arith in
-    cond-false (digit b) _ _ n ∙ cond-true (eqb b 40) _ _ (eq-eqb b 40 e) ∙ ap (λ k. bracket (value_at k) (cut_at_space bs)) less
+-- what a reader of arguments knows before `rest`
+pub record Turns (depth : ℕ) (op : Operator) (s : Tally) (rest text : List ℕ) : Type 0 where
+  pub turns : ℕ
+  pub enough : length rest ≤ turns
+  pub same : arguments (value_at (depth - 1)) op turns s (spaces rest) ≡ value_at depth (spaces text)
+  pub within : s.number + length rest < length text
 
-on_space : (inner : List ℕ → Read) (o : Operator) (f : ℕ) (s : Tally) (b : ℕ) (bs : List ℕ) → 0 < f → b ≡ 32 → arguments inner o f s (b ∷ bs) ≡ then (inner bs) (λ p. then (fold_in o s.number s.result p.0) (λ t. arguments inner o (f - 1) t p.1))
-on_space inner o zero s b bs h e = absurd (omega arith)
-on_space inner o (suc f) s b bs h e =
-    let less : f ≡ suc f - 1 = omega arith in
-    cond-true (eqb b 32) _ _ (eq-eqb b 32 e) ∙ ap (λ k. then (inner bs) (λ p. then (fold_in o s.number s.result p.0) (λ t. arguments inner o k t p.1))) less
+-- what stands behind the byte at the front
+abbrev behind : List ℕ → List ℕ
+behind w = take (length w - 1) (drop 1 w)
 
-on_close : (inner : List ℕ → Read) (o : Operator) (f : ℕ) (s : Tally) (b : ℕ) (bs : List ℕ) → 0 < f → b ≡ 41 → arguments inner o f s (b ∷ bs) ≡ then (at_close o s.number s.result) (λ q. Ok (q, bs))
-on_close inner o zero s b bs h e = absurd (omega arith)
-on_close inner o (suc f) s b bs h e = cond-false (eqb b 32) _ _ (ne_eqb b 32 (λ z. omega arith)) ∙ cond-true (eqb b 41) _ _ (eq-eqb b 41 e)
+behind_shorter : (w : List ℕ) → length (behind w) ≡ length w - 1
+behind_shorter w = ap length (take_rest w 1) ∙ length-drop 1 w
 
-on_other : (inner : List ℕ → Read) (o : Operator) (f : ℕ) (s : Tally) (b : ℕ) (bs : List ℕ) → 0 < f → (b ≡ 32 → ⊥) → (b ≡ 41 → ⊥) → arguments inner o f s (b ∷ bs) ≡ Err Unreadable
-on_other inner o zero s b bs h p q = absurd (omega arith)
-on_other inner o (suc f) s b bs h p q = cond-false (eqb b 32) _ _ (ne_eqb b 32 p) ∙ cond-false (eqb b 41) _ _ (ne_eqb b 41 q)
+opens : (d : ℕ) (v : List ℕ) → 0 < d → value_at d (40 ∷ v) ≡ bracket (value_at (d - 1)) (cut_at_space v)
+opens zero v h = absurd (omega arith)
+opens (suc d) v h = ap (λ k. bracket (value_at k) (cut_at_space v)) (omega arith)
 
-module _ (inner : List ℕ → Read) (o : Operator) (f : ℕ) (s : Tally) (v : List ℕ) (i : ℕ) (lt : i < length v) (turns : length v - i ≤ f) where
-  pub at-space : get_or v i 0 ≡ 32 → arguments inner o f s (drop i v) ≡ then (inner (drop (i + 1) v)) (λ p. then (fold_in o s.number s.result p.0) (λ t. arguments inner o (f - 1) t p.1))
-  at-space e = at_drop_more (arguments inner o f s) v i 0 lt ∙ on_space inner o f s (get_or v i 0) (drop (i + 1) v) (omega arith) e
+pub turns_start : (d : ℕ) (op : Operator) (name rest text : List ℕ) → 0 < d → 0 < length text → get_or text 0 0 ≡ 40 → operator_of name ≡ op
+    → cut_at_space (spaces (behind text)) ≡ Some (spaces name, spaces rest) → length rest ≤ length (behind text) → Turns d op none rest text
+turns_start d op name rest text h some e is cut short = record {
+  turns = length (spaces rest);
+  enough = omega (arith, length-map rest as_space);
+  same = sym (
+      ap (value_at d) (front text some ∙ ap (λ b. as_space b ∷ spaces (behind text)) e)
+      ∙ opens d (spaces (behind text)) h
+      ∙ ap (bracket (value_at (d - 1))) cut
+      ∙ ap (λ o. arguments (value_at (d - 1)) o (length (spaces rest)) none (spaces rest)) (space_operator name ∙ is));
+  within = omega (arith, behind_shorter text);
+}
 
-  pub at-close : get_or v i 0 ≡ 41 → arguments inner o f s (drop i v) ≡ then (at_close o s.number s.result) (λ q. Ok (q, drop (i + 1) v))
-  at-close e = at_drop_more (arguments inner o f s) v i 0 lt ∙ on_close inner o f s (get_or v i 0) (drop (i + 1) v) (omega arith) e
+module _ (d : ℕ) (op : Operator) (s : Tally) (rest text : List ℕ) (r : Turns d op s rest text) (some : 0 < length rest) (sep : separates (get_or rest 0 0) ≡ true) where
+  abbrev inner : List ℕ → Read
+  inner = value_at (d - 1)
 
-  pub at_other : (get_or v i 0 ≡ 32 → ⊥) → (get_or v i 0 ≡ 41 → ⊥) → arguments inner o f s (drop i v) ≡ Err Unreadable
-  at_other p q = at_drop_more (arguments inner o f s) v i 0 lt ∙ on_other inner o f s (get_or v i 0) (drop (i + 1) v) (omega arith) p q
+  turn : value_at d (spaces text) ≡ then (inner (spaces (behind rest))) (λ p. then (fold_in op s.number s.result p.0) (λ t. arguments inner op (r.turns - 1) t p.1))
+  turn = sym r.same ∙ ap (arguments inner op r.turns s) (front rest some ∙ ap (λ b. b ∷ spaces (behind rest)) (cond-true _ _ _ sep)) ∙ by r.turns (omega (arith, r.enough))
+    where
+      by : (f : ℕ) → 0 < f → arguments inner op f s (32 ∷ spaces (behind rest)) ≡ then (inner (spaces (behind rest))) (λ p. then (fold_in op s.number s.result p.0) (λ t. arguments inner op (f - 1) t p.1))
+      by zero h = absurd (omega arith)
+      by (suc f) h = ap (λ k. then (inner (spaces (behind rest))) (λ p. then (fold_in op s.number s.result p.0) (λ t. arguments inner op k t p.1))) (omega arith)
 
-pub at-end : (inner : List ℕ → Read) (o : Operator) (f : ℕ) (s : Tally) (v : List ℕ) (i : ℕ) → length v ≤ i → arguments inner o f s (drop i v) ≡ Err Unreadable
-at-end inner o f s v i h = at_drop_all (arguments inner o f s) v i h
+  pub turns_next : (q : Ratio) (u : List ℕ) (s' : Tally) → inner (spaces (behind rest)) ≡ Ok (q, spaces u) → fold_in op s.number s.result q ≡ Ok s' → s'.number ≡ s.number + 1 → length u ≤ length (behind rest) → Turns d op s' u text
+  turns_next q u s' e f n short = record {
+    turns = r.turns - 1;
+    enough = omega (arith, r.enough, behind_shorter rest);
+    same = sym (
+        turn ∙ ap (λ x. then x (λ p. then (fold_in op s.number s.result p.0) (λ t. arguments inner op (r.turns - 1) t p.1))) e
+        ∙ ap (λ x. then x (λ t. arguments inner op (r.turns - 1) t (spaces u))) f);
+    within = omega (arith, r.within, behind_shorter rest);
+  }
 
--- what a refusal says of the text v, from a slice of the length n
-pub refuses : (r : Result Reading ValueFault) (v : List ℕ) (n : ℕ) (x : Read) (e : ValueFault) → r ≡ Err e → x ≡ Err e → (read_in r v ≡ x) × IfOk r (λ p. p.end ≤ n)
-refuses r v n x e q h = (ap (λ y. read_in y v) q ∙ sym h, subst (λ y. IfOk y (λ p. p.end ≤ n)) (sym q) tt)
+  pub turns_refused : (q : Ratio) (u : List ℕ) (x : ValueFault) → inner (spaces (behind rest)) ≡ Ok (q, spaces u) → fold_in op s.number s.result q ≡ Err x → value_at d (spaces text) ≡ Err x
+  turns_refused q u x e f =
+      turn ∙ ap (λ x. then x (λ p. then (fold_in op s.number s.result p.0) (λ t. arguments inner op (r.turns - 1) t p.1))) e
+      ∙ ap (λ x. then x (λ t. arguments inner op (r.turns - 1) t (spaces u))) f
 
 -- ---- the front of a value
-pub value_empty : (d : ℕ) (v : List ℕ) → length v ≡ 0 → value_at d v ≡ Err Unreadable
-value_empty d [] h = refl
-value_empty d (b ∷ bs) h = absurd (omega arith)
-
 pub value_digit : (d : ℕ) (v : List ℕ) → 0 < length v → digit (get_or v 0 0) ≡ true → value_at d v ≡ literal_of (digits_after 0 v)
 value_digit d [] l e = absurd (omega arith)
 value_digit zero (b ∷ bs) l e = cond-true (digit b) _ _ e
 value_digit (suc d) (b ∷ bs) l e = cond-true (digit b) _ _ e
-
-pub value_other : (d : ℕ) (v : List ℕ) → 0 < length v → digit (get_or v 0 0) ≡ false → (get_or v 0 0 ≡ 40 → ⊥) → value_at d v ≡ Err Unreadable
-value_other d [] l e n = absurd (omega arith)
-value_other zero (b ∷ bs) l e n = cond-false (digit b) _ _ e ∙ cond-false (eqb b 40) _ _ (ne_eqb b 40 n)
-value_other (suc d) (b ∷ bs) l e n = cond-false (digit b) _ _ e ∙ cond-false (eqb b 40) _ _ (ne_eqb b 40 n)
-
-pub value_deep : (d : ℕ) (v : List ℕ) → d ≡ 0 → 0 < length v → digit (get_or v 0 0) ≡ false → get_or v 0 0 ≡ 40 → value_at d v ≡ Err TooDeep
-value_deep d [] z l e o = absurd (omega arith)
-value_deep zero (b ∷ bs) z l e o = cond-false (digit b) _ _ e ∙ cond-true (eqb b 40) _ _ (eq-eqb b 40 o)
-value_deep (suc d) (b ∷ bs) z l e o = absurd (omega arith)

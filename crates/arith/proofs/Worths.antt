@@ -2,7 +2,8 @@
 use Rattle.std.proofs.Common.{◌≡◌, ℕ, zero, suc, ◌*◌, ◌<◌, Bool, true, false, cond, eqb, ℤ, pos, negsuc, neg_ℤ, nat_abs, Some, None, Ok, Err, Option, sym, refl, ap, ◌∙◌, subst, mul-pos, arith}
 use Prim.Native.Nat.{◌∣◌}
 use Rattle.std.specs.Option.{option_map}
-use Rattle.std.proofs.lemmas.Bool.{cond-false, eqb-false, ne_eqb}
+use Rattle.std.proofs.lemmas.Bool.{cond-false}
+use Rattle.std.proofs.lemmas.Bool.Decides.{nat_tests}
 use Rattle.fraction.specs.declared.FractionFault.TheVariants.{ZeroDivisor}
 use Rattle.fraction.specs.Bounds.{fits}
 use Rattle.fraction.specs.Ratios.{Ratio, Same, whole, negative, difference, quotient}
@@ -53,14 +54,10 @@ less_needs = both-needs difference denoms_positive difference-same
 
 -- ---- a quotient
 some_size : (n : ℕ) → eqb n 0 ≡ false → 0 < n
-some_size zero e = absurd (eqb-false 0 0 e refl)
-some_size (suc n) e = omega arith
+some_size n e = grind (arith, nat_tests)
 
 size_some : (n : ℕ) → 0 < n → eqb n 0 ≡ false
-size_some n h = ne_eqb n 0 (λ e. apart e)
-  where
-    apart : n ≡ 0 → ⊥
-    apart e = omega arith
+size_some n h = grind (arith, nat_tests)
 
 pub over_gives : (o u : Option Ratio) (x y f : Ratio) → Is o x → Is u y → divide x y ≡ Ok f → Is (both quotient o (nonzero u)) f
 over_gives None u x y f a b e = absurd a
@@ -68,7 +65,7 @@ over_gives (Some p) None x y f a b e = absurd b
 over_gives (Some p) (Some q) x y f a b e = by (eqb (nat_abs y.numer) 0) refl e
   where
     by : (t : Bool) → eqb (nat_abs y.numer) 0 ≡ t → cond t (Err ZeroDivisor) (lowest (quotient x y)) ≡ Ok f → Is (both quotient (Some p) (nonzero (Some q))) f
-    by true z h = let w : ◌≡◌ {A = ℕ} 0 1 = cc in absurd (omega arith)
+    by true z h = absurd (cc)
     by false z h =
         let m = some_size (nat_abs y.numer) z in
         let n = nonzero-same y q b.0 m b.1.same in

@@ -1,7 +1,7 @@
 // Values of the theory `arith`.
 #![tactic(auto)]
 
-ghost use Rattle.std.specs.Prelude.{◌≡◌, ℕ, ◌+◌, ◌^◌, ◌<◌, ◌≤◌, length, IfSome, IfOk, Ok, codes};
+ghost use Rattle.std.specs.Prelude.{◌≡◌, ◌+◌, ◌^◌, ◌<◌, ◌≤◌, length, IfSome, IfOk, Ok, codes};
 ghost use Rattle.std.specs.Option.{option_map};
 ghost use Rattle.fraction.specs.Fractions.{ratio};
 ghost use Rattle.fraction.specs.Ratios.{Ratio};
@@ -9,7 +9,7 @@ ghost use Rattle.arith.specs.Examples.{Examples};
 ghost use Rattle.arith.specs.Laws.{ArithStands, Denotes};
 ghost use Rattle.words.specs.Joined.{spaces};
 ghost use Rattle.arith.specs.Faults.{value_fault, value_fault_number};
-ghost use Rattle.arith.specs.Values.{arith_value, at_close, cut_at_space, digit, digits_after, fold_in, literal_of, operator_of, value_at};
+ghost use Rattle.arith.specs.Values.{arith_value, at_close, cut_at_space, digits_after, fold_in, literal_of, operator_of, value_at};
 ghost use Rattle.arith.specs.Answers.{answered, cut_in, folds, read_in};
 
 use fraction::FractionFault;
@@ -28,11 +28,12 @@ pub enum ValueFault {
     TooDeep = 13,
 }
 
-impl ValueFault {
-    pub fn number(self) -> u8
-        ensures { result ≡ value_fault_number self }
-    {
-        self as u8
+// The number that a refusal goes by.
+impl From<ValueFault> for u8 {
+    ghost from_gives = { λ f n. n ≡ value_fault_number f };
+
+    fn from(fault: ValueFault) -> u8 {
+        fault as u8
     }
 }
 
@@ -47,6 +48,7 @@ impl From<FractionFault> for ValueFault {
     }
 }
 
+// An enum and a match on signs, and no table of closures: a rule of the project.
 #[derive(Clone, Copy)]
 enum Operator {
     Sum,
@@ -72,7 +74,7 @@ fn operator_of(name: &[u8]) -> Operator
     }
 }
 
-// The arguments so far: how many, and what they come to.
+// The arguments so far: how many, and what they come to. Not an Option of both: each argument would open it and make it again.
 #[derive(Clone, Copy)]
 struct Folded {
     count: usize,
@@ -106,96 +108,80 @@ impl Folded {
     fn close(self, op: Operator) -> Result<Fraction, ValueFault>
         ensures { answered result ≡ at_close op self.count (option_map ratio self.value) }
     {
-        let Some(x) = self.value else {
-            return Err(ValueFault::Unreadable);
-        };
+        let x = self.value.ok_or(ValueFault::Unreadable)?;
         match (op, self.count) {
             (Operator::Sum | Operator::Product, _) => Ok(x),
-            (Operator::Difference, 1) => Ok(x.negated()),
+            (Operator::Difference, 1) => Ok(-x),
             (Operator::Difference | Operator::Quotient, 2) => Ok(x),
             _ => Err(ValueFault::Unreadable),
         }
     }
 }
 
-// A value, and where the text after it begins.
+// A value, and the text after it.
 #[derive(Clone, Copy)]
-struct Reading {
+struct Reading<'a> {
     value: Fraction,
-    end: usize,
-}
-
-fn is_digit(b: u8) -> bool
-    ensures { result ≡ digit b }
-{
-    matches!(b, b'0'..=b'9')
+    rest: &'a [u8],
 }
 
 // The digits at the front as a number. Past 64 bits it stays at the largest, which does not fit either.
-fn read_literal(text: &[u8]) -> Result<Reading, ValueFault>
-    ensures value { read_in result (spaces text.now) ≡ literal_of (digits_after 0 (spaces text.now)) }
-    ensures within { IfOk result (λ p. p.end ≤ length text.now) }
+fn read_literal(text: &[u8]) -> Result<Reading<'_>, ValueFault>
+    ensures value { read_in result ≡ literal_of (digits_after 0 (spaces text.now)) }
+    ensures within { IfOk result (λ p. length p.rest.now ≤ length text.now) }
 {
     let mut n: u64 = 0;
-    let mut end: usize = 0;
-    while end < text.len() && is_digit(text[end]) {
-        n = n
-            .saturating_mul(10)
-            .saturating_add(u64::from(text[end] - b'0'));
-        end += 1;
+    let mut rest = text;
+    while let [b @ b'0'..=b'9', after @ ..] = rest {
+        n = n.saturating_mul(10).saturating_add(u64::from(*b - b'0'));
+        rest = after;
     }
-    let value = Fraction::whole_number(n)?;
-    Ok(Reading { value, end })
+    let value = Fraction::try_from(n)?;
+    Ok(Reading { value, rest })
 }
 
-// Where the first separator stands.
-fn find_separator(text: &[u8]) -> Option<usize>
-    ensures cut { cut_in result (spaces text.now) ≡ cut_at_space (spaces text.now) }
-    ensures within { IfSome result (λ i. i < length text.now) }
+// What stands before the first separator, and the text from it on.
+fn cut_at_separator(text: &[u8]) -> Option<(&[u8], &[u8])>
+    ensures cut { cut_in result ≡ cut_at_space (spaces text.now) }
+    ensures within { IfSome result (λ p. length p.1.now ≤ length text.now) }
 {
-    for (i, b) in text.iter().enumerate() {
-        if is_separator(*b) {
-            return Some(i);
-        }
-    }
-    None
+    let i = text.iter().position(|b| is_separator(*b))?;
+    Some(text.split_at(i))
 }
 
 // A value at the front of the text, where `depth` more brackets may be opened.
-fn read_value(text: &[u8], depth: u32) -> Result<Reading, ValueFault>
-    ensures value { read_in result (spaces text.now) ≡ value_at depth (spaces text.now) }
-    ensures within { IfOk result (λ p. p.end ≤ length text.now) }
+fn read_value(text: &[u8], depth: u32) -> Result<Reading<'_>, ValueFault>
+    ensures value { read_in result ≡ value_at depth (spaces text.now) }
+    ensures within { IfOk result (λ p. length p.rest.now ≤ length text.now) }
 {
-    if text.len() == 0 {
-        return Err(ValueFault::Unreadable);
-    }
-    if is_digit(text[0]) {
-        return read_literal(text);
-    }
-    if text[0] != b'(' {
-        return Err(ValueFault::Unreadable);
-    }
+    let inside = match text {
+        [b'0'..=b'9', ..] => return read_literal(text),
+        [b'(', inside @ ..] => inside,
+        _ => return Err(ValueFault::Unreadable),
+    };
     if depth == 0 {
         return Err(ValueFault::TooDeep);
     }
-    let inside = &text[1..];
-    let space = find_separator(inside).ok_or(ValueFault::Unreadable)?;
-    let op = operator_of(&inside[0..space]);
+    let (name, mut rest) = cut_at_separator(inside).ok_or(ValueFault::Unreadable)?;
+    let op = operator_of(name);
     let mut so_far = Folded {
         count: 0,
         value: None,
     };
-    let mut at = 1 + space;
-    while at < text.len() && is_separator(text[at]) {
-        let argument = read_value(&text[at + 1..], depth - 1)?;
-        so_far = so_far.take(op, argument.value)?;
-        at += 1 + argument.end;
+    loop {
+        match rest {
+            [b, argument @ ..] if is_separator(*b) => {
+                let argument = read_value(argument, depth - 1)?;
+                so_far = so_far.take(op, argument.value)?;
+                rest = argument.rest;
+            },
+            [b')', after @ ..] => {
+                let value = so_far.close(op)?;
+                return Ok(Reading { value, rest: after });
+            },
+            _ => return Err(ValueFault::Unreadable),
+        }
     }
-    if at == text.len() || text[at] != b')' {
-        return Err(ValueFault::Unreadable);
-    }
-    let value = so_far.close(op)?;
-    Ok(Reading { value, end: at + 1 })
 }
 
 // A value at the front of a span of a line, in which each separator stands for one space; what follows the value is ignored.
@@ -205,8 +191,7 @@ pub fn parse_arith(span: &[u8]) -> Result<Fraction, ValueFault>
     ensures sound { IfOk (answered result) (Denotes (spaces span.now)) }
     ensures complete { (f : Ratio) → Denotes (spaces span.now) f → answered result ≡ Ok f }
 {
-    let reading = read_value(span, DEEPEST)?;
-    Ok(reading.value)
+    Ok(read_value(span, DEEPEST)?.value)
 }
 
 // The same of the definition, for every text, and its worked examples; the answer is one of them.

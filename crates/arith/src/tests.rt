@@ -102,7 +102,7 @@ fn refusals(rt: HostRuntime) -> Result<(), Fail> {
     fails(&rt, b"(- 1 2 3)", ValueFault::Unreadable)?;
     fails(&rt, b"(- 1 2 (/ 3 0))", ValueFault::ZeroDivisor)?;
     fails(&rt, b"(max 1 2147483648)", ValueFault::TooLarge)?;
-    assert_eq!(rt; ValueFault::TooDeep.number(), 13);
+    assert_eq!(rt; u8::from(ValueFault::TooDeep), 13);
     Ok(())
 }
 

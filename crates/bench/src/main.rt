@@ -8,8 +8,9 @@ use index::map::TermIdToIdxMap;
 use index::table::term_table;
 use keyed::slot::Slot;
 use keys::mix::mix;
-use std::env;
+use std::num::NonZeroU32;
 use std::time::{Duration, Instant};
+use std::{env, fmt};
 
 const SEED: u64 = 0x9e3779b97f4a7c15;
 
@@ -20,43 +21,53 @@ enum Orders {
     Random,
 }
 
-// A kind of identifiers: how their orders go, in so many namespaces, or in none where that is 0.
-#[derive(Clone, Copy)]
-struct Kind {
-    orders: Orders,
-    namespaces: u32,
-}
-
-impl Kind {
-    fn name(self) -> &'static str {
-        match self.orders {
-            Orders::Consecutive => "consecutive orders",
-            Orders::Multiples => "multiples of 128",
-            Orders::Random => "random orders",
-        }
-    }
-
+impl Orders {
     fn order(self, i: u32) -> u32 {
-        match self.orders {
+        match self {
             Orders::Consecutive => i,
             Orders::Multiples => i.wrapping_mul(128),
             Orders::Random => scattered(i),
         }
     }
+}
 
+impl fmt::Display for Orders {
+    fn fmt<W: fmt::Write>(&self, f: &mut fmt::Formatter<W>) -> fmt::Result {
+        f.write_str(match self {
+            Orders::Consecutive => "consecutive orders",
+            Orders::Multiples => "multiples of 128",
+            Orders::Random => "random orders",
+        })
+    }
+}
+
+// A kind of identifiers: how their orders go, and in how many namespaces, if in any.
+#[derive(Clone, Copy)]
+struct Kind {
+    orders: Orders,
+    namespaces: Option<NonZeroU32>,
+}
+
+impl Kind {
     // The i-th identifier.
     fn ident(self, i: u32) -> Ident {
-        if self.namespaces == 0 {
-            Ident {
+        match self.namespaces {
+            None => Ident {
                 namespace: None,
-                order: self.order(i),
-            }
-        } else {
-            Ident {
-                namespace: Some(i % self.namespaces),
-                order: self.order(i / self.namespaces),
-            }
+                order: self.orders.order(i),
+            },
+            Some(many) => Ident {
+                namespace: Some(i % many.get()),
+                order: self.orders.order(i / many.get()),
+            },
         }
+    }
+}
+
+impl fmt::Display for Kind {
+    fn fmt<W: fmt::Write>(&self, f: &mut fmt::Formatter<W>) -> fmt::Result {
+        let namespaces = self.namespaces.map_or(0, |many| many.get());
+        write!(f, "{}, {namespaces} namespaces", self.orders)
     }
 }
 
@@ -68,41 +79,28 @@ fn scattered(i: u32) -> u32 {
 }
 
 // Enters so many, and answers how many were refused.
-fn enter<I: TermIdToIdxMap>(index: &mut I, many: u32, kind: Kind) -> u32 {
-    let mut refused: u32 = 0;
-    for i in 0..many {
-        if index.register_term(kind.ident(i), i).is_err() {
-            refused = refused.saturating_add(1);
-        }
-    }
-    refused
+fn enter<I: TermIdToIdxMap>(index: &mut I, many: u32, kind: Kind) -> usize {
+    (0..many)
+        .filter(|i| index.register_term(kind.ident(*i), *i).is_err())
+        .count()
 }
 
 // Looks so many up, and answers how many were found.
-fn find<I: TermIdToIdxMap>(index: &I, first: u32, many: u32, kind: Kind) -> u32 {
-    let mut found: u32 = 0;
-    for i in 0..many {
-        if index.get_term(kind.ident(first.wrapping_add(i))).is_some() {
-            found = found.saturating_add(1);
-        }
-    }
-    found
+fn find<I: TermIdToIdxMap>(index: &I, first: u32, many: u32, kind: Kind) -> usize {
+    (0..many)
+        .filter(|i| index.get_term(kind.ident(first.wrapping_add(*i))).is_some())
+        .count()
 }
 
-// Reads so many slots at random places: what the memory alone costs.
-fn touch(slots: &[Slot<Ident, u32>], many: u32) -> u32 {
-    let mut held: u32 = 0;
+// Reads so many slots at random places, and answers how many of them are held: what the memory alone costs.
+fn touch(slots: &[Slot<Ident, u32>], many: u32) -> usize {
     let n = slots.len();
     if n == 0 {
         return 0;
     }
-    for i in 0..many {
-        let slot = slots[mix(1, u64::from(i)) as usize % n];
-        if let Slot::Held(_, _) = slot {
-            held = held.saturating_add(1);
-        }
-    }
-    held
+    (0..many)
+        .filter(|i| slots[mix(1, u64::from(*i)) as usize % n].is_some())
+        .count()
 }
 
 fn each(time: Duration, many: u32) -> u128 {
@@ -113,38 +111,36 @@ fn each(time: Duration, many: u32) -> u128 {
     }
 }
 
+// Takes a step, and says what it counted and how long it took.
+fn timed<F: FnOnce() -> usize>(rt: &HostRuntime, step: F) -> anyhow::Result<(usize, Duration)>
+    requires { F.IsAlwaysCallable step }
+{
+    let start = Instant::now(rt)?;
+    let counted = step();
+    Ok((counted, Instant::now(rt)?.duration_since(start)))
+}
+
 fn measure(rt: &HostRuntime, many: u32, slots: usize, kind: Kind) -> anyhow::Result<()> {
-    let heap = rt.alloc();
-    let mut row = vec![in heap; Slot::Free; slots]?;
-    let mut table = term_table(&mut row[..], SEED);
-    let a = Instant::now(rt)?;
-    let refused = enter(&mut table, many, kind);
-    let b = Instant::now(rt)?;
-    let found = find(&table, 0, many, kind);
-    let c = Instant::now(rt)?;
-    let strange = find(&table, many, many, kind);
-    let d = Instant::now(rt)?;
+    let mut row = vec![in rt.alloc(); None; slots]?;
+    let mut table = term_table(&mut row, SEED);
+    let (refused, entering) = timed(rt, || enter(&mut table, many, kind))?;
+    let (found, finding) = timed(rt, || find(&table, 0, many, kind))?;
+    let (strange, missing) = timed(rt, || find(&table, many, many, kind))?;
     let held = table.held();
-    let e = Instant::now(rt)?;
-    let touched = touch(&row[..], many);
-    let f = Instant::now(rt)?;
-    let name = kind.name();
-    let namespaces = kind.namespaces;
+    let (touched, bare) = timed(rt, || touch(&row, many))?;
     println!(rt;
-        "{many} in {slots} slots, {name}, {namespaces} namespaces: refused {refused}, held {held}, found {found}, of as many others {strange}"
+        "{many} in {slots} slots, {kind}: refused {refused}, held {held}, found {found}, of as many others {strange}"
     )?;
-    let entering = each(b.duration_since(a), many);
-    let finding = each(c.duration_since(b), many);
-    let missing = each(d.duration_since(c), many);
-    let bare = each(f.duration_since(e), many);
+    let (entering, finding) = (each(entering, many), each(finding, many));
+    let (missing, bare) = (each(missing, many), each(bare, many));
     eprintln!(rt;
-        "{many} in {slots} slots, {name}, {namespaces} namespaces: enter {entering} ns, find {finding} ns, find none {missing} ns; one slot read {bare} ns, {touched} of them held"
+        "{many} in {slots} slots, {kind}: enter {entering} ns, find {finding} ns, find none {missing} ns; one slot read {bare} ns, {touched} of them held"
     )?;
     Ok(())
 }
 
 fn kinds(rt: &HostRuntime, many: u32, slots: usize) -> anyhow::Result<()> {
-    for namespaces in [0, 1, 1000] {
+    for namespaces in [None, NonZeroU32::new(1), NonZeroU32::new(1000)] {
         for orders in [Orders::Consecutive, Orders::Multiples, Orders::Random] {
             measure(rt, many, slots, Kind { orders, namespaces })?;
         }
@@ -153,11 +149,7 @@ fn kinds(rt: &HostRuntime, many: u32, slots: usize) -> anyhow::Result<()> {
 }
 
 fn run(rt: &HostRuntime) -> anyhow::Result<()> {
-    let mut full = false;
-    for word in env::args(rt)? {
-        full = full | (word.as_str() == "full");
-    }
-    if full {
+    if env::args(rt)?.any(|word| word.as_str() == "full") {
         kinds(rt, 100000, 200000)?;
         kinds(rt, 8000000, 16000000)?;
         kinds(rt, 100000, 111112)?;

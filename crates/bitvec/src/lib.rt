@@ -1,15 +1,15 @@
 // Bit-vector values, as SMT-LIB 2.6 writes them.
 #![tactic(auto)]
 
-ghost use Rattle.std.specs.Prelude.{◌≡◌, ◌+◌, ◌*◌, ◌<◌, ◌≤◌, IfSome};
+ghost use Rattle.std.specs.Prelude.{◌≡◌};
 ghost use Rattle.words.specs.Joined.{spaces};
-ghost use Rattle.bitvec.specs.BitVecs.{bit_digit, bit_vec, bits_of, digit_in, hex_digit, of_digits, radix, vec_fault_number};
+ghost use Rattle.bitvec.specs.BitVecs.{bit_vec, bits_of, digit_in, of_digits, radix, vec_fault_number};
 
-// What the digits are.
+// What the digits are: how many values one has.
 #[derive(Clone, Copy, PartialEq, Eq, Debug)]
 pub enum Base {
-    Binary,
-    Hexadecimal,
+    Binary = 2,
+    Hexadecimal = 16,
 }
 
 // A value and its width in bits, both part of equality. A text of any length may be read, so the width may pass 64 bits.
@@ -26,110 +26,67 @@ pub enum BitVecFault {
     TooLarge = 12,
 }
 
-impl BitVecFault {
-    pub fn number(self) -> u8
-        ensures { result ≡ vec_fault_number self }
+// The number that a refusal tells.
+impl From<BitVecFault> for u8 {
+    ghost from_gives = { λ f n. n ≡ vec_fault_number f };
+
+    fn from(fault: BitVecFault) -> u8 {
+        fault as u8
+    }
+}
+
+impl Base {
+    fn radix(self) -> u32
+        ensures { result ≡ radix self }
     {
-        self as u8
+        self as u32
     }
-}
 
-fn hex_digit(b: u8) -> Option<u8>
-    ensures value { result ≡ hex_digit b }
-    ensures bound { IfSome result (λ d. d < 16) }
-{
-    match b {
-        b'0'..=b'9' => Some(b - b'0'),
-        b'a'..=b'f' => Some(b - 87),
-        b'A'..=b'F' => Some(b - 55),
-        _ => None,
-    }
-}
-
-fn bit_digit(b: u8) -> Option<u8>
-    ensures value { result ≡ bit_digit b }
-    ensures bound { IfSome result (λ d. d < 16) }
-{
-    match b {
-        b'0' | b'1' => Some(b - b'0'),
-        _ => None,
-    }
-}
-
-fn digit(base: Base, b: u8) -> Option<u8>
-    ensures value { result ≡ digit_in base b }
-    ensures bound { IfSome result (λ d. d < 16) }
-{
-    match base {
-        Base::Binary => bit_digit(b),
-        Base::Hexadecimal => hex_digit(b),
-    }
-}
-
-// The number behind one digit more.
-fn longer(base: Base, value: u128, digit: u8) -> u128
-    requires { (value ≤ 18446744073709551615) × (digit < 16) }
-    ensures { result ≡ value * radix base + digit }
-{
-    match base {
-        Base::Binary => value * 2 + u128::from(digit),
-        Base::Hexadecimal => value * 16 + u128::from(digit),
-    }
-}
-
-// How many bits so many digits have.
-fn width(base: Base, digits: usize) -> u128
-    ensures { result ≡ digits * bits_of base }
-{
-    match base {
-        Base::Binary => digits as u128,
-        Base::Hexadecimal => digits as u128 * 4,
-    }
-}
-
-// One or more digits. A value that is too large is left at that, so that a bad digit behind it is still found.
-fn read_digits(base: Base, ds: &[u8]) -> Result<BitVec, BitVecFault>
-    ensures { result ≡ of_digits base ds.now }
-{
-    if ds.is_empty() {
-        return Err(BitVecFault::Unreadable);
-    }
-    let most = u128::from(u64::MAX);
-    let mut value: u128 = 0;
-    for b in ds {
-        let Some(d) = digit(base, *b) else {
-            return Err(BitVecFault::Unreadable);
-        };
-        if value <= most {
-            value = longer(base, value, d);
+    // How many bits a digit has.
+    fn bits(self) -> u128
+        ensures { result ≡ bits_of self }
+    {
+        match self {
+            Base::Binary => 1,
+            Base::Hexadecimal => 4,
         }
     }
-    if value > most {
-        return Err(BitVecFault::TooLarge);
+
+    fn digit(self, b: u8) -> Option<u32>
+        ensures { result ≡ digit_in self b }
+    {
+        char::from(b).to_digit(self.radix())
     }
-    Ok(BitVec {
-        value: value as u64,
-        bits: width(base, ds.len()),
-    })
+
+    // One or more digits. A value that is too large still goes on, so that a bad digit behind it is found.
+    fn read(self, digits: &[u8]) -> Result<BitVec, BitVecFault>
+        ensures { result ≡ of_digits self digits.now }
+    {
+        if digits.is_empty() {
+            return Err(BitVecFault::Unreadable);
+        }
+        let mut value: u128 = 0;
+        for b in digits {
+            let digit = self.digit(*b).ok_or(BitVecFault::Unreadable)?;
+            value = value
+                .saturating_mul(u128::from(self.radix()))
+                .saturating_add(u128::from(digit));
+        }
+        let value = u64::try_from(value).map_err(|_| BitVecFault::TooLarge)?;
+        let bits = digits.len() as u128 * self.bits();
+        Ok(BitVec { value, bits })
+    }
 }
 
 // A bit-vector value that is a whole span of a line, in which each separator stands for one space.
 pub fn parse_bitvec(span: &[u8]) -> Result<BitVec, BitVecFault>
     ensures { result ≡ bit_vec (spaces span.now) }
 {
-    if span.len() < 2 {
-        return Err(BitVecFault::Unreadable);
+    match span {
+        [b'#', b'x', digits @ ..] => Base::Hexadecimal.read(digits),
+        [b'#', b'b', digits @ ..] => Base::Binary.read(digits),
+        _ => Err(BitVecFault::Unreadable),
     }
-    if span[0] != b'#' {
-        return Err(BitVecFault::Unreadable);
-    }
-    if span[1] == b'x' {
-        return read_digits(Base::Hexadecimal, &span[2..]);
-    }
-    if span[1] == b'b' {
-        return read_digits(Base::Binary, &span[2..]);
-    }
-    Err(BitVecFault::Unreadable)
 }
 
 #[cfg(test)]

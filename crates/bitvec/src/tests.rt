@@ -28,6 +28,8 @@ fn no_values(rt: HostRuntime) {
     assert_eq!(rt; parse_bitvec(b"#b2"), Err(BitVecFault::Unreadable));
     assert_eq!(rt; parse_bitvec(b"#X1"), Err(BitVecFault::Unreadable));
     assert_eq!(rt; parse_bitvec(b"x1"), Err(BitVecFault::Unreadable));
+    assert_eq!(rt; u8::from(BitVecFault::Unreadable), 10);
+    assert_eq!(rt; u8::from(BitVecFault::TooLarge), 12);
     assert_eq!(rt;
         parse_bitvec(b"#x10000000000000000g"),
         Err(BitVecFault::Unreadable)

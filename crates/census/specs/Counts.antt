@@ -1,6 +1,6 @@
 -- What is counted over the lines of a trace: the lines of each kind, those of no known kind, those too long to be read, and whether
 -- word 1 of the lines that name an identifier there reads as one. Assumes nothing.
-use Rattle.std.specs.Prelude.{ℕ, ◌+◌, Bool, true, false, cond, not, ◌&&◌, List, [], ◌∷◌, ◌++◌, is_some, Some, None, Ok, Err, Option, Result, ◌==◌}
+use Rattle.std.specs.Prelude.{ℕ, ◌+◌, Bool, true, false, cond, not, ◌&&◌, List, [], ◌∷◌, ◌++◌, is_some, Some, None, Ok, Err, Option, Result, ◌==◌, count_by}
 use Rattle.ids.specs.declared.id.IdFault.{IdFault}
 use Rattle.ids.specs.Ids.{Id, ident}
 use Rattle.words.specs.declared.kind.LineKind.{LineKind}
@@ -15,8 +15,7 @@ use Rattle.census.specs.declared.record.LineClass.TheVariants.{TooLong, Unknown,
 
 -- how many lines pass a test
 abbrev pub how_many : (List ℕ → Bool) → List (List ℕ) → ℕ
-how_many p [] = 0
-how_many p (l ∷ ls) = cond (p l) 1 0 + how_many p ls
+how_many p ls = count_by p ls
 
 abbrev pub by_kind : Option LineKind → LineClass
 by_kind None = Unknown

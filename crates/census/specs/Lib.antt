@@ -1,3 +1,4 @@
 pub mod Counts
 pub mod Found
 pub mod Steps
+pub mod Messages

@@ -1,13 +1,14 @@
 // The count over all lines of a file.
-ghost use Rattle.std.specs.Prelude.{◌≡◌, ◌+◌, ◌^◌, ◌<◌, ◌≤◌, cond, length};
-ghost use Rattle.census.specs.Counts.{class_of, names_id, noted, word_cause};
+ghost use Rattle.std.specs.Prelude.{◌≡◌};
+ghost use Rattle.std.specs.Result.{result_err};
+ghost use Rattle.census.specs.Counts.{class_of, names_id, word_cause};
 ghost use Rattle.census.specs.Found.{CensusOf};
 ghost use Rattle.lines.specs.Lines.{lines_of};
-ghost use Rattle.census.specs.Steps.{OneMore, Small, laid_from};
+ghost use Rattle.census.specs.Steps.{OneMore, Small};
 ghost use Rattle.words.specs.Words.{first_of, rest_of, words_of};
 
 use super::record::{BadId, Census, IdCause, LineClass};
-use ids::{IdFault, parse_id};
+use ids::{IdText, parse_id};
 use lines::{LineMode, Lines};
 use words::{LineKind, Words, too_long};
 
@@ -18,14 +19,10 @@ pub fn classify(line: &[u8]) -> LineClass
     if too_long(line) {
         return LineClass::TooLong;
     }
-    let mut words = Words::of(line);
-    let Some(word) = words.next() else {
-        return LineClass::Unknown;
-    };
-    match LineKind::of(word) {
-        None => LineClass::Unknown,
-        Some(kind) => LineClass::Known(kind),
-    }
+    Words::of(line)
+        .next()
+        .and_then(LineKind::of)
+        .map_or(LineClass::Unknown, LineClass::Known)
 }
 
 // Whether word 1 of such a line is an identifier.
@@ -45,33 +42,16 @@ fn names_id(kind: LineKind) -> bool
     )
 }
 
-// Why word 1 does not read as an identifier, none where it does.
-fn word_cause(line: &[u8]) -> Option<IdCause>
-    ensures { result ≡ word_cause (first_of (rest_of (words_of line.now))) }
+// Word 1, read as an identifier.
+fn word_1(line: &[u8]) -> Result<IdText<'_>, IdCause>
+    ensures { result_err result ≡ word_cause (first_of (rest_of (words_of line.now))) }
 {
-    let mut words = Words::of(line);
-    let _kind = words.next();
-    let Some(word) = words.next() else {
-        return Some(IdCause::Missing);
-    };
-    match parse_id(word) {
-        Ok(_) => None,
-        Err(fault) => Some(IdCause::Fault(fault)),
-    }
+    let word = Words::of(line).nth(1).ok_or(IdCause::Missing)?;
+    Ok(parse_id(word)?)
 }
 
-// The bad identifier of a line, if it has one, behind those told so far, where the memory still has a place for it.
-fn tell(bad: &mut [BadId], told: usize, line: usize, cause: Option<IdCause>)
-    ensures { bad.new ≡ laid_from told (noted line cause) bad.old }
-{
-    if let Some(cause) = cause {
-        if told < bad.len() {
-            bad[told] = BadId { line, cause };
-        }
-    }
-}
-
-// One line more.
+// One line more. A bad identifier is told behind those before it, where the memory still has a place for it.
+#[tactic(auto, using(crate::proofs::Places::laid_none))]
 fn note(found: &mut Census, line: &[u8], bad: &mut [BadId])
     requires { Small found.old }
     ensures { OneMore line.now found.old found.new bad.old bad.new }
@@ -82,34 +62,30 @@ fn note(found: &mut Census, line: &[u8], bad: &mut [BadId])
         LineClass::TooLong => found.too_long += 1,
         LineClass::Unknown => found.unknown += 1,
         LineClass::Known(kind) => {
-            found.kinds[kind.number()] += 1;
+            found.kinds[usize::from(kind)] += 1;
             if names_id(kind) {
-                let cause = word_cause(line);
-                tell(bad, found.bad_ids, at, cause);
-                if cause.is_some() {
-                    found.bad_ids += 1;
-                } else {
-                    found.good_ids += 1;
+                match word_1(line) {
+                    Ok(_) => found.good_ids += 1,
+                    Err(cause) => {
+                        // tested by the place: what `get_mut` promises says nothing of the elements
+                        if found.bad_ids < bad.len() {
+                            bad[found.bad_ids] = BadId { line: at, cause };
+                        }
+                        found.bad_ids += 1;
+                    }
                 }
             }
         }
     }
 }
 
-// Counts the lines of a file. The first bad identifiers are told in `bad`, as many as fit.
+// Counts the lines of a file. The first bad identifiers are told in `bad`, as many as fit: it is lent, by a rule of the project, and the
+// count of all says how many of its places are told.
 pub fn count_lines(bytes: &[u8], mode: LineMode, bad: &mut [BadId]) -> Census
     ensures { CensusOf (lines_of mode bytes.now) result bad.old bad.new }
 {
-    let mut found = Census {
-        lines: 0,
-        kinds: [0; 25],
-        unknown: 0,
-        too_long: 0,
-        good_ids: 0,
-        bad_ids: 0,
-    };
-    let mut lines = Lines::of(bytes, mode);
-    while let Some(line) = lines.next() {
+    let mut found = Census::default();
+    for line in Lines::of(bytes, mode) {
         note(&mut found, line, bad);
     }
     found

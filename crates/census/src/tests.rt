@@ -1,6 +1,7 @@
 use super::*;
 use ids::IdFault;
 use lines::LineMode;
+use std::test::Fail;
 use words::LineKind;
 
 const TRACE: &[u8] =
@@ -15,8 +16,8 @@ fn lines_are_counted(rt: HostRuntime) {
     let mut bad = [none; 3];
     let found = count_lines(TRACE, LineMode::Joined, &mut bad);
     assert_eq!(rt; found.lines, 7);
-    assert_eq!(rt; found.kinds[LineKind::MkApp.number()], 2);
-    assert_eq!(rt; found.kinds[LineKind::MkVar.number()], 1);
+    assert_eq!(rt; found.of_kind(LineKind::MkApp), 2);
+    assert_eq!(rt; found.of_kind(LineKind::MkVar), 1);
     assert_eq!(rt; found.unknown, 1);
     assert_eq!(rt; found.too_long, 0);
     assert_eq!(rt; found.good_ids, 2);
@@ -24,6 +25,15 @@ fn lines_are_counted(rt: HostRuntime) {
     assert!(rt; bad[0].line == 2 && bad[0].cause == IdCause::Missing);
     assert!(rt; bad[1].line == 4 && bad[1].cause == IdCause::Fault(IdFault::NoHash));
     assert!(rt; bad[2].line == 7);
+}
+
+#[test]
+fn causes_print(rt: HostRuntime) -> Result<(), Fail> {
+    let missing = IdCause::Missing.to_string(rt.alloc())?;
+    assert!(rt; missing.as_str() == "is missing");
+    let fault = IdCause::from(IdFault::NoHash).to_string(rt.alloc())?;
+    assert!(rt; fault.as_str() == "has no `#`");
+    Ok(())
 }
 
 #[test]

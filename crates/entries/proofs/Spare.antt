@@ -1,6 +1,7 @@
 -- No more are held than were entered, so that none is refused for want of room within the capacity. Assumes nothing.
-use Rattle.std.proofs.Common.{◌≡◌, ℕ, zero, suc, ◌<◌, ◌≤◌, Bool, true, List, [], ◌∷◌, length, is_some, Some, None, Option, sym, refl, ap, ◌∙◌, ⊎_elim, arith}
-use Rattle.std.proofs.lemmas.Bool.{false≢true, cases_lt, or_left, or_right}
+use Rattle.std.proofs.Common.{◌≡◌, ℕ, zero, suc, ◌<◌, ◌≤◌, Bool, true, List, [], ◌∷◌, length, is_some, Some, None, Option, refl, ap, ◌∙◌, arith}
+use Rattle.std.proofs.lemmas.Bool.{false≢true}
+use Rattle.std.proofs.lemmas.Grind.{common_steps}
 use Rattle.keyed.proofs.Counts.{no_longer}
 use Rattle.keyed.specs.Meaning.{Names, Kept, kept, listed, IndexLaws}
 use Rattle.idents.specs.declared.ident.Ident.{Ident}
@@ -19,12 +20,7 @@ ids_long es (suc k) = ap suc (ids_long es k)
 
 ids_has : (es : List Entry) (k p : ℕ) (i : Ident) → p < k → (at es p).id ≡ i → listed same_ident i (ids_below es k) ≡ true
 ids_has es zero p i lt e = absurd (omega arith)
-ids_has es (suc k) p i lt e =
-    ⊎_elim
-    (λ lo. or_right (same_ident i (at es k).id) (listed same_ident i (ids_below es k)) (ids_has es k p i lo e))
-    (λ hi. let q : p ≡ k = omega arith in
-    or_left (same_ident i (at es k).id) (listed same_ident i (ids_below es k)) (ap (same_ident i) (ap (λ z. (at es z).id) (sym q) ∙ e) ∙ same_self i))
-    (cases_lt p k)
+ids_has es (suc k) p i lt e = grind (arith, common_steps, ids_has es k p i, same_self i)
 
 answered : (es : List Entry) (k : ℕ) (i : Ident) (o : Option ℕ) → Answer es k i o → is_some o ≡ true → listed same_ident i (ids_below es k) ≡ true
 answered es k i None a e = absurd (false≢true e)

@@ -21,10 +21,8 @@ pub fn enter_all<I: TermIdToIdxMap>(index: &mut I, entries: &mut [Entry])
     ensures told { I.TermIdToIdxMap.sound index.old → I.TermIdToIdxMap.means index.old ≡ nothing → Told I.TermIdToIdxMap.roomy (I.TermIdToIdxMap.size index.old) entries.old entries.new (I.TermIdToIdxMap.means index.new) }
     ensures spare { I.TermIdToIdxMap.sound index.old → I.TermIdToIdxMap.means index.old ≡ nothing → ((k : ℕ) → k < length entries.old → proper_ident (at entries.old k).id ≡ true) → length entries.old ≤ I.TermIdToIdxMap.capacity (I.TermIdToIdxMap.size index.old) → (k : ℕ) → k < length entries.old → (at entries.new k).taken ≡ true }
 {
-    for i in 0..entries.len() {
-        let entry = entries[i];
-        let taken = index.register_term(entry.id, entry.number).is_ok();
-        entries[i].taken = taken;
+    for entry in entries {
+        entry.taken = index.register_term(entry.id, entry.number).is_ok();
     }
 }
 
@@ -41,8 +39,6 @@ pub fn enter_and_ask<I: TermIdToIdxMap>(
 }
 
 // Two makes of one size and one room, whatever their seeds, mark the same entries and find the same numbers.
-pub fn told_once() -> u8
+pub fn told_once()
     ensures { ToldOnce }
-{
-    0
-}
+{}

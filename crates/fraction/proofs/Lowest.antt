@@ -10,7 +10,7 @@ use Rattle.fraction.specs.Bounds.{fits}
 use Rattle.fraction.specs.Ratios.{Ratio, Same, Reduced, with_sign}
 use Rattle.fraction.specs.Fractions.{bounded, lowest}
 use Rattle.fraction.specs.Laws.{Lowest}
-use Rattle.fraction.proofs.Gcd.{gcd_by-divides, gcd_by-greatest, gcd-pos, den_pos, gcd-over, divides_other}
+use Rattle.fraction.proofs.Gcd.{gcd-is, gcd-pos, den_pos, gcd-over, divides_other}
 use Rattle.fraction.proofs.Rational.{same_up, same_down, same_from, same_trans}
 
 pub size_sign : (z : ℤ) (n : ℕ) → nat_abs (with_sign z n) ≡ n
@@ -21,15 +21,11 @@ size_sign (negsuc _) (suc n) = refl
 -- ---- what is given
 given_out : (z : ℤ) (n d : ℕ) (f : Ratio) (t : Bool) → fits n d ≡ t → cond t (Ok (record { numer = with_sign z n; denom = d })) (Err TooLarge) ≡ Ok f → (fits n d ≡ true) × (record { numer = with_sign z n; denom = d } ≡ f)
 given_out z n d f true e h = (e, cc)
-given_out z n d f false e h = let z : ◌≡◌ {A = ℕ} 0 1 = cc in absurd (omega arith)
+given_out z n d f false e h = absurd (cc)
 
 -- (n / g) * d is n * (d / g) if g divides both
 swap : (n d g : ℕ) → g ∣ n → g ∣ d → n / g * d ≡ n * (d / g)
-swap n d g p q =
-    ap (λ x. n / g * x) (sym (div-mul_cancel g q)) ∙ regroup (n / g) (d / g) g ∙ ap (λ x. x * (d / g)) (div-mul_cancel g p)
-  where
-    regroup : (a b g : ℕ) → a * (b * g) ≡ a * g * b
-    regroup a b g = omega arith
+swap n d g p q = omega (arith, ap (λ x. n / g * x) (div-mul_cancel g q), ap (λ x. x * (d / g)) (div-mul_cancel g p))
 
 module _ (z : ℤ) (d : ℕ) (h : 0 < d) where
   abbrev size : ℕ
@@ -39,12 +35,12 @@ module _ (z : ℤ) (d : ℕ) (h : 0 < d) where
   over = record { numer = with_sign z (size / gcd size d); denom = d / gcd size d }
 
   swapped : size / gcd size d * d ≡ size * (d / gcd size d)
-  swapped = let v = gcd_by-divides d size d (omega arith) in swap size d (gcd size d) v.0 v.1
+  swapped = let v = gcd-is size d in swap size d (gcd size d) v.0 v.1
 
   over_low : Reduced over
   over_low = record {
     positive = den_pos size d h;
-    apart = λ k p q. eq-one_of_dvd-one (subst (λ n. k ∣ n) (gcd-over size d h) (gcd_by-greatest (d / gcd size d) (size / gcd size d) (d / gcd size d) k (omega arith) (subst (λ n. k ∣ n) (size_sign z (size / gcd size d)) p) q));
+    apart = λ k p q. eq-one_of_dvd-one (subst (λ n. k ∣ n) (gcd-over size d h) ((gcd-is (size / gcd size d) (d / gcd size d)).2 k (subst (λ n. k ∣ n) (size_sign z (size / gcd size d)) p) q));
   }
 
 signed_same : (z : ℤ) (n d b : ℕ) → n * d ≡ nat_abs z * b → Same (record { numer = with_sign z n; denom = b }) (record { numer = z; denom = d })
@@ -69,30 +65,12 @@ size_parts (pos n) = omega arith
 size_parts (negsuc n) = omega arith
 
 sizes : (p q : Ratio) → Same p q → nat_abs p.numer * q.denom ≡ nat_abs q.numer * p.denom
-sizes p q e =
-    ap (λ n. n * q.denom) (size_parts p.numer)
-    ∙ both (up p.numer) (down p.numer) q.denom (up q.numer) (down q.numer) p.denom (same_up p q e) (same_down p q e)
-    ∙ ap (λ n. n * p.denom) (sym (size_parts q.numer))
-  where
-    both : (u v d x y b : ℕ) → u * d ≡ x * b → v * d ≡ y * b → (u + v) * d ≡ (x + y) * b
-    both u v d x y b e f = omega arith
+sizes p q e = omega (arith, ap (λ n. n * q.denom) (size_parts p.numer), ap (λ n. n * p.denom) (size_parts q.numer), same_up p q e, same_down p q e)
 
 sign_kept : (z a : ℤ) (d b : ℕ) → 0 < d → 0 < b → up a * d ≡ up z * b → down a * d ≡ down z * b → with_sign z (nat_abs a) ≡ a
 sign_kept (pos n) (pos m) d b h k u v = refl
-sign_kept (pos n) (negsuc m) d b h k u v = absurd (apart (mul-pos (positive m) h))
-  where
-    positive : (n : ℕ) → 0 < suc n
-    positive n = omega arith
-
-    apart : 0 < suc m * d → ⊥
-    apart t = omega arith
-sign_kept (negsuc n) (pos m) d b h k u v = absurd (apart (mul-pos (positive n) k))
-  where
-    positive : (n : ℕ) → 0 < suc n
-    positive n = omega arith
-
-    apart : 0 < suc n * b → ⊥
-    apart t = omega arith
+sign_kept (pos n) (negsuc m) d b h k u v = let some : 0 < suc m * d = mul-pos (omega arith) h in absurd (omega arith)
+sign_kept (negsuc n) (pos m) d b h k u v = let some : 0 < suc n * b = mul-pos (omega arith) k in absurd (omega arith)
 sign_kept (negsuc n) (negsuc m) d b h k u v = refl
 
 -- two fractions in lowest terms that are one number have one numerator's size and one denominator
@@ -108,16 +86,10 @@ module _ (s b n d : ℕ) (h : 0 < d) (k : 0 < b) (e : s * d ≡ n * b) (apart : 
 
   smaller : s * B ≡ A * b
   smaller =
-      let v = gcd_by-divides d n d (omega arith) in
+      let v = gcd-is n d in
       let cut = div-mul_cancel g v.0 in
       let cut' = div-mul_cancel g v.1 in
-      eq_of_mul-eq-mul_right g (gcd-pos n d h) (s * B) (A * b) (regroup s B g ∙ ap (λ x. s * x) cut' ∙ e ∙ ap (λ x. x * b) (sym cut) ∙ sym (regroup' A b g))
-    where
-      regroup : (x y z : ℕ) → x * y * z ≡ x * (y * z)
-      regroup x y z = omega arith
-
-      regroup' : (x y z : ℕ) → x * y * z ≡ x * z * y
-      regroup' x y z = omega arith
+      eq_of_mul-eq-mul_right g (gcd-pos n d h) (s * B) (A * b) (omega (arith, ap (λ x. s * x) cut', e, ap (λ x. x * b) cut))
 
   denoms : b ≡ B
   denoms =
@@ -135,7 +107,7 @@ lowest-only p f h l =
     let a = f.numer in
     let b = f.denom in
     let s = nat_abs a in
-    let v = gcd_by-divides b s b (omega arith) in
+    let v = gcd-is s b in
     let apart : gcd s b ≡ 1 = l.low.apart (gcd s b) v.0 v.1 in
     let eA = numers s b (nat_abs z) d h l.low.positive (sizes f p l.same) apart in
     let eB = denoms s b (nat_abs z) d h l.low.positive (sizes f p l.same) apart in

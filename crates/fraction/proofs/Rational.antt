@@ -1,5 +1,5 @@
 -- Ratios that are one number, and the arithmetic of such. Assumes nothing.
-use Rattle.std.proofs.Common.{◌≡◌, ℕ, zero, suc, ◌+◌, ◌*◌, ◌<◌, ℤ, pos, negsuc, ◌*ℤ◌, nat_abs, sym, refl, ap, ◌∙◌, mul-pos, arith}
+use Rattle.std.proofs.Common.{◌≡◌, ℕ, zero, suc, ◌+◌, ◌*◌, ◌<◌, ℤ, pos, negsuc, ◌*ℤ◌, nat_abs, sym, ap, ◌∙◌, mul-pos, arith}
 use native.Mathlib.Nat.{eq_of_mul-eq-mul_right}
 use borrow.Author.Differences.{up, down, same_in, sum_is_lem, neg_is, product_is}
 use Rattle.fraction.specs.Ratios.{Ratio, Same, sum, product, negative, difference, inverse, quotient}
@@ -25,9 +25,6 @@ same_from p q e =
 same_parts : (p q : Ratio) → up p.numer * q.denom ≡ up q.numer * p.denom → down p.numer * q.denom ≡ down q.numer * p.denom → Same p q
 same_parts p q u d = same_from p q (omega arith)
 
-pub same_self : (p : Ratio) → Same p p
-same_self p = refl
-
 -- a * c = b * d and b * e = f * c, so a * e = f * d
 across : (a b c d e f : ℕ) → 0 < c → a * c ≡ b * d → b * e ≡ f * c → a * e ≡ f * d
 across a b c d e f h p q =
@@ -45,34 +42,23 @@ negative-same p q e =
     same_parts (negative p) (negative q) (ap (λ n. n * q.denom) a.0 ∙ same_down p q e ∙ ap (λ n. n * p.denom) (sym b.0))
     (ap (λ n. n * q.denom) a.1 ∙ same_up p q e ∙ ap (λ n. n * p.denom) (sym b.1))
 
--- the sum in ℕ, by numbers of which each stands for a product
-balance : (u a b v c d x a' b' y c' d' : ℕ) → u + a + b ≡ v + c + d → x + a' + b' ≡ y + c' + d' → c ≡ c' → a ≡ a' → d ≡ d' → b ≡ b' → u + y ≡ x + v
-balance u a b v c d x a' b' y c' d' f g p q r s = omega arith
-
-spread : (u a b v c d n : ℕ) → u + a + b ≡ v + c + d → u * n + a * n + b * n ≡ v * n + c * n + d * n
-spread u a b v c d n f = omega (arith, ap (λ m. m * n) f)
-
-first : (u x d e d₂ e₂ : ℕ) → u * e ≡ x * d → u * d₂ * (e * e₂) ≡ x * e₂ * (d * d₂)
-first u x d e d₂ e₂ p = omega (arith, ap (λ n. n * (d₂ * e₂)) p)
-
-second : (u x d e d₁ e₁ : ℕ) → u * e ≡ x * d → u * d₁ * (e₁ * e) ≡ x * e₁ * (d₁ * d)
-second u x d e d₁ e₁ p = omega (arith, ap (λ n. n * (d₁ * e₁)) p)
-
 -- u and v are the parts of a numerator over d, x and y those of the one that is the same over e
 sum-parts : (u₁ v₁ d₁ u₂ v₂ d₂ x₁ y₁ e₁ x₂ y₂ e₂ u v x y : ℕ)
     → u₁ * e₁ ≡ x₁ * d₁ → v₁ * e₁ ≡ y₁ * d₁ → u₂ * e₂ ≡ x₂ * d₂ → v₂ * e₂ ≡ y₂ * d₂
     → u + v₁ * d₂ + v₂ * d₁ ≡ v + u₁ * d₂ + u₂ * d₁ → x + y₁ * e₂ + y₂ * e₁ ≡ y + x₁ * e₂ + x₂ * e₁
     → u * (e₁ * e₂) + y * (d₁ * d₂) ≡ x * (d₁ * d₂) + v * (e₁ * e₂)
-sum-parts u₁ v₁ d₁ u₂ v₂ d₂ x₁ y₁ e₁ x₂ y₂ e₂ u v x y p q r s f g =
-    balance (u * (e₁ * e₂)) (v₁ * d₂ * (e₁ * e₂)) (v₂ * d₁ * (e₁ * e₂)) (v * (e₁ * e₂)) (u₁ * d₂ * (e₁ * e₂)) (u₂ * d₁ * (e₁ * e₂))
-    (x * (d₁ * d₂)) (y₁ * e₂ * (d₁ * d₂)) (y₂ * e₁ * (d₁ * d₂)) (y * (d₁ * d₂)) (x₁ * e₂ * (d₁ * d₂)) (x₂ * e₁ * (d₁ * d₂))
-    (spread u (v₁ * d₂) (v₂ * d₁) v (u₁ * d₂) (u₂ * d₁) (e₁ * e₂) f) (spread x (y₁ * e₂) (y₂ * e₁) y (x₁ * e₂) (x₂ * e₁) (d₁ * d₂) g)
-    (first u₁ x₁ d₁ e₁ d₂ e₂ p) (first v₁ y₁ d₁ e₁ d₂ e₂ q) (second u₂ x₂ d₂ e₂ d₁ e₁ r) (second v₂ y₂ d₂ e₂ d₁ e₁ s)
+sum-parts u₁ v₁ d₁ u₂ v₂ d₂ x₁ y₁ e₁ x₂ y₂ e₂ u v x y p q r s f g = omega (
+  arith,
+  ap (λ n. n * (d₂ * e₂)) p,
+  ap (λ n. n * (d₂ * e₂)) q,
+  ap (λ n. n * (d₁ * e₁)) r,
+  ap (λ n. n * (d₁ * e₁)) s,
+  ap (λ n. n * (e₁ * e₂)) f,
+  ap (λ n. n * (d₁ * d₂)) g,
+)
 
 pub sum_same : (p q p' q' : Ratio) → Same p p' → Same q q' → Same (sum p q) (sum p' q')
 sum_same p q p' q' e f =
-    let s = sum_is_lem (p.numer *ℤ pos q.denom) (q.numer *ℤ pos p.denom) in
-    let s' = sum_is_lem (p'.numer *ℤ pos q'.denom) (q'.numer *ℤ pos p'.denom) in
     same_from (sum p q) (sum p' q') (sum-parts (up p.numer) (down p.numer) p.denom (up q.numer) (down q.numer) q.denom
     (up p'.numer) (down p'.numer) p'.denom (up q'.numer) (down q'.numer) q'.denom
     (up (sum p q).numer) (down (sum p q).numer) (up (sum p' q').numer) (down (sum p' q').numer)

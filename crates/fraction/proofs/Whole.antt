@@ -1,18 +1,14 @@
 -- Whole numbers in lowest terms. Assumes nothing.
-use Rattle.std.proofs.Common.{◌≡◌, ℕ, ◌^◌, ◌<◌, ◌≤◌, cond, pos, Ok, Err, ap, ◌∙◌, ⊎_elim, div-one, arith}
-use Rattle.std.proofs.lemmas.Bool.{cases_Bool, cond-false}
+use Rattle.std.proofs.Common.{◌≡◌, ℕ, ◌^◌, nat_le, ◌≤◌, cond, pos, Ok, Err, ap, ◌∙◌, div-one, arith}
+use Rattle.std.proofs.lemmas.Bool.{cond-false, and_left, lt-leb}
 use Rattle.fraction.specs.declared.FractionFault.TheVariants.{TooLarge}
 use Rattle.fraction.specs.Bounds.{fits}
 use Rattle.fraction.specs.Ratios.{whole}
 use Rattle.fraction.specs.Fractions.{bounded, lowest}
-use Rattle.fraction.proofs.Sizes.{fits-small}
 
 pub lowest-whole : (n : ℕ) → lowest (whole n) ≡ cond (fits n 1) (Ok (whole n)) (Err TooLarge)
 lowest-whole n = ap (λ k. bounded (pos n) k 1) (div-one n)
 
 -- one of 64 bits does not fit
 pub lowest-large : (n : ℕ) → 2 ^ 63 ≤ n → lowest (whole n) ≡ Err TooLarge
-lowest-large n h = lowest-whole n ∙ cond-false (fits n 1) _ _ (⊎_elim (λ e. absurd (large (fits-small n 1 e).0)) (λ e. e) (cases_Bool (fits n 1)))
-  where
-    large : n < 2 ^ 63 → ⊥
-    large k = omega arith
+lowest-large n h = lowest-whole n ∙ cond-false (fits n 1) _ _ (and_left (nat_le n 2147483647) _ (lt-leb n 2147483647 (omega arith)))

@@ -1,7 +1,7 @@
 // Fractions in lowest terms, and their arithmetic.
 #![tactic(auto)]
 
-ghost use Rattle.std.specs.Prelude.{◌≡◌, ℕ, ◌+◌, ◌*◌, ◌^◌, ◌<◌, ◌≤◌, pos, ◌*ℤ◌, unsigned_abs};
+ghost use Rattle.std.specs.Prelude.{◌≡◌, ◌^◌, ◌<◌, ◌*ℤ◌, unsigned_abs};
 ghost use Rattle.fraction.specs.Laws.{GreatestDivisor, LowestStands};
 ghost use Rattle.fraction.specs.Bounds.{fits};
 ghost use Rattle.fraction.specs.Divisors.{gcd};
@@ -10,6 +10,7 @@ ghost use Rattle.fraction.specs.Fractions.{add, divide, fault_number, multiply, 
 
 pub mod terms;
 
+use std::ops::Neg;
 use terms::Fraction;
 
 // The largest numerator, of either sign, and the largest denominator.
@@ -21,11 +22,12 @@ pub enum FractionFault {
     TooLarge = 12,
 }
 
-impl FractionFault {
-    pub fn number(self) -> u8
-        ensures { result ≡ fault_number self }
-    {
-        self as u8
+// The number that a refusal goes by.
+impl From<FractionFault> for u8 {
+    ghost from_gives = { λ f n. n ≡ fault_number f };
+
+    fn from(fault: FractionFault) -> u8 {
+        fault as u8
     }
 }
 
@@ -39,12 +41,9 @@ fn within_bounds(size: u128, den: u128) -> bool
 fn gcd_of(x: u128, y: u128) -> u128
     ensures { result ≡ gcd x y }
 {
-    let mut a = x;
-    let mut b = y;
+    let (mut a, mut b) = (x, y);
     while b != 0 {
-        let r = a % b;
-        a = b;
-        b = r;
+        (a, b) = (b, a % b);
     }
     a
 }
@@ -77,67 +76,59 @@ fn reduce(num: i128, den: u128) -> Result<Fraction, FractionFault>
     })
 }
 
-// A numerator times a denominator, and times a numerator.
-fn scaled(num: i64, by: u64) -> i128
-    requires { (unsigned_abs num < 2 ^ 63) × (by < 2 ^ 63) }
-    ensures value { result ≡ num *ℤ pos by }
+// A product of two numbers of fewer than 64 bits.
+fn product(a: i128, b: i128) -> i128
+    requires { (unsigned_abs a < 2 ^ 63) × (unsigned_abs b < 2 ^ 63) }
+    ensures value { result ≡ a *ℤ b }
     ensures size { unsigned_abs result < 2 ^ 126 }
 {
-    i128::from(num) * i128::from(by)
+    a * b
 }
 
-fn multiplied(num: i64, by: i64) -> i128
-    requires { (unsigned_abs num < 2 ^ 63) × (unsigned_abs by < 2 ^ 63) }
-    ensures { result ≡ num *ℤ by }
-{
-    i128::from(num) * i128::from(by)
-}
+// The whole number `n`.
+impl TryFrom<u64> for Fraction {
+    type Error = FractionFault;
 
-// A product of two denominators.
-fn below_both(a: u64, b: u64) -> u128
-    requires { (0 < a) × (0 < b) }
-    ensures value { result ≡ a * b }
-    ensures positive { 0 < result }
-{
-    u128::from(a) * u128::from(b)
-}
+    ghost try_from_gives = { λ n r. told r ≡ lowest (whole n) };
 
-impl Fraction {
-    // The whole number `n`.
-    pub fn whole_number(n: u64) -> Result<Fraction, FractionFault>
-        ensures { told result ≡ lowest (whole n) }
-    {
+    fn try_from(n: u64) -> Result<Fraction, FractionFault> {
         reduce(i128::from(n), 1)
     }
+}
 
-    pub fn plus(self, other: Fraction) -> Result<Fraction, FractionFault>
-        ensures { told result ≡ add (ratio self) (ratio other) }
-    {
-        let left = scaled(self.num, other.den);
-        let right = scaled(other.num, self.den);
-        reduce(left + right, below_both(self.den, other.den))
-    }
+impl Neg for Fraction {
+    type Output = Fraction;
 
-    pub fn times(self, other: Fraction) -> Result<Fraction, FractionFault>
-        ensures { told result ≡ multiply (ratio self) (ratio other) }
-    {
-        let above = multiplied(self.num, other.num);
-        reduce(above, below_both(self.den, other.den))
-    }
+    ghost neg_gives = { λ x y. ratio y ≡ negative (ratio x) };
 
-    pub fn negated(self) -> Fraction
-        ensures { ratio result ≡ negative (ratio self) }
-    {
+    fn neg(self) -> Fraction {
         Fraction {
             num: -self.num,
             den: self.den,
         }
     }
+}
+
+impl Fraction {
+    pub fn plus(self, other: Fraction) -> Result<Fraction, FractionFault>
+        ensures { told result ≡ add (ratio self) (ratio other) }
+    {
+        let left = product(i128::from(self.num), i128::from(other.den));
+        let right = product(i128::from(other.num), i128::from(self.den));
+        reduce(left + right, u128::from(self.den) * u128::from(other.den))
+    }
 
     pub fn minus(self, other: Fraction) -> Result<Fraction, FractionFault>
         ensures { told result ≡ subtract (ratio self) (ratio other) }
     {
-        self.plus(other.negated())
+        self.plus(-other)
+    }
+
+    pub fn times(self, other: Fraction) -> Result<Fraction, FractionFault>
+        ensures { told result ≡ multiply (ratio self) (ratio other) }
+    {
+        let num = product(i128::from(self.num), i128::from(other.num));
+        reduce(num, u128::from(self.den) * u128::from(other.den))
     }
 
     pub fn over(self, other: Fraction) -> Result<Fraction, FractionFault>
@@ -148,7 +139,8 @@ impl Fraction {
             return Err(FractionFault::ZeroDivisor);
         }
         let turned = with_sign(i128::from(other.num), other.den);
-        reduce(multiplied(self.num, turned), below_both(self.den, size))
+        let num = product(i128::from(self.num), i128::from(turned));
+        reduce(num, u128::from(self.den) * u128::from(size))
     }
 }
 
@@ -158,7 +150,7 @@ pub fn fractions_stand() -> Result<Fraction, FractionFault>
     ensures terms { LowestStands }
     ensures largest { told result ≡ lowest (whole 2147483647) }
 {
-    Fraction::whole_number(2_147_483_647)
+    Fraction::try_from(2_147_483_647)
 }
 
 #[cfg(test)]

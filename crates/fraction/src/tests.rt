@@ -25,9 +25,9 @@ fn check_fault(
 
 #[test]
 fn lowest_terms(rt: HostRuntime) -> Result<(), Fail> {
-    let six = Fraction::whole_number(6)?;
-    let four = Fraction::whole_number(4)?;
-    check_is(&rt, six.over(four.negated())?, -3, 2);
+    let six = Fraction::try_from(6)?;
+    let four = Fraction::try_from(4)?;
+    check_is(&rt, six.over(-four)?, -3, 2);
     check_is(&rt, six.over(four)?.times(four)?, 6, 1);
     check_is(&rt, six.minus(six)?.over(four)?, 0, 1);
     check_is(&rt, six.over(four)?.plus(four.over(six)?)?, 13, 6);
@@ -36,32 +36,24 @@ fn lowest_terms(rt: HostRuntime) -> Result<(), Fail> {
 
 #[test]
 fn limits(rt: HostRuntime) -> Result<(), Fail> {
-    let one = Fraction::whole_number(1)?;
-    let most = Fraction::whole_number(2147483647)?;
-    check_fault(
-        &rt,
-        Fraction::whole_number(2147483648),
-        FractionFault::TooLarge,
-    )?;
-    check_fault(
-        &rt,
-        Fraction::whole_number(u64::MAX),
-        FractionFault::TooLarge,
-    )?;
+    let one = Fraction::try_from(1)?;
+    let most = Fraction::try_from(2147483647)?;
+    check_fault(&rt, Fraction::try_from(2147483648), FractionFault::TooLarge)?;
+    check_fault(&rt, Fraction::try_from(u64::MAX), FractionFault::TooLarge)?;
     check_fault(&rt, most.plus(one), FractionFault::TooLarge)?;
-    check_fault(&rt, most.negated().minus(one), FractionFault::TooLarge)?;
+    check_fault(&rt, (-most).minus(one), FractionFault::TooLarge)?;
     check_fault(&rt, most.times(most), FractionFault::TooLarge)?;
     check_fault(&rt, one.over(most)?.over(most), FractionFault::TooLarge)?;
-    check_is(&rt, most.negated().over(most)?, -1, 1);
+    check_is(&rt, (-most).over(most)?, -1, 1);
     Ok(())
 }
 
 #[test]
 fn faults(rt: HostRuntime) -> Result<(), Fail> {
-    let one = Fraction::whole_number(1)?;
-    let none = Fraction::whole_number(0)?;
+    let one = Fraction::try_from(1)?;
+    let none = Fraction::try_from(0)?;
     check_fault(&rt, one.over(none), FractionFault::ZeroDivisor)?;
-    assert_eq!(rt; FractionFault::ZeroDivisor.number(), 11);
-    assert_eq!(rt; FractionFault::TooLarge.number(), 12);
+    assert_eq!(rt; u8::from(FractionFault::ZeroDivisor), 11);
+    assert_eq!(rt; u8::from(FractionFault::TooLarge), 12);
     Ok(())
 }

@@ -1,11 +1,7 @@
 -- An index in front of another: it keeps the low orders without a namespace itself. Assumes nothing.
-use Rattle.std.specs.Prelude.{◌≡◌, ℕ, zero, suc, ◌+◌, ◌-◌, Bool, true, false, cond, ◌&&◌, ◌||◌, List, [], ◌∷◌, length, is_some, Some, None, Option, nat_lt, slice_index_or}
+use Rattle.std.specs.Prelude.{◌≡◌, ℕ, zero, suc, ◌+◌, ◌-◌, Bool, true, false, cond, ◌&&◌, ◌||◌, List, [], ◌∷◌, length, is_none, is_some, None, Option, nat_lt, slice_index_or}
 use Rattle.keyed.specs.Meaning.{Names, Kept}
 use Rattle.idents.specs.declared.ident.Ident.{Ident}
-
-abbrev pub no_namespace : Option ℕ → Bool
-no_namespace None = true
-no_namespace (Some n) = false
 
 -- the identifier of an order without a namespace
 abbrev pub low : ℕ → Ident
@@ -18,7 +14,7 @@ low_keys h (suc n) = cond (h n) (low n ∷ low_keys h n) (low_keys h n)
 
 -- which identifiers the front keeps itself
 abbrev pub frontal : Ident → Bool
-frontal i = no_namespace i.namespace && nat_lt i.order 4096
+frontal i = is_none i.namespace && nat_lt i.order 4096
 
 -- which orders have a number in the front's own places
 abbrev pub filled : List (Option ℕ) → ℕ → Bool

@@ -13,28 +13,14 @@ pub const LOW: usize = 4096;
 fn is_frontal(id: Ident) -> bool
     ensures { result ≡ frontal id }
 {
-    match id.namespace {
-        None => id.order < 4096,
-        Some(_) => false,
-    }
-}
-
-fn low(orders: &[Option<u32>; LOW], order: usize) -> Option<u32>
-    requires { order < 4096 }
-    ensures { result ≡ slice_index_or orders.now order None }
-{
-    orders[order]
+    id.namespace.is_none() && (id.order as usize) < LOW
 }
 
 // How many of the low orders have a number.
 fn count_low(orders: &[Option<u32>; LOW]) -> usize
     ensures { result ≡ length (low_keys (filled orders.now) 4096) }
 {
-    let mut held = 0;
-    for order in 0..LOW {
-        held += usize::from(orders[order].is_some());
-    }
-    held
+    orders.iter().filter(|o| o.is_some()).count()
 }
 
 // An index that keeps the low orders without a namespace itself, and passes the rest below.
@@ -73,7 +59,8 @@ impl<'a, 'b, I: TermIdToIdxMap> TermIdToIdxMap for Front<'a, 'b, I> {
 
     fn get_term(&self, id: Ident) -> Option<u32> {
         if is_frontal(id) {
-            low(self.orders, id.order as usize)
+            let orders = &*self.orders;
+            orders[id.order as usize]
         } else {
             self.below.get_term(id)
         }
@@ -84,19 +71,12 @@ impl<'a, 'b, I: TermIdToIdxMap> TermIdToIdxMap for Front<'a, 'b, I> {
     }
 
     fn room(&self, id: Ident) -> bool {
-        if is_frontal(id) {
-            true
-        } else {
-            self.below.room(id)
-        }
+        is_frontal(id) || self.below.room(id)
     }
 
     fn register_term(&mut self, id: Ident, number: u32) -> Result<Option<u32>, NoRoom> {
         if is_frontal(id) {
-            let at = id.order as usize;
-            let old = self.orders[at];
-            self.orders[at] = Some(number);
-            Ok(old)
+            Ok(self.orders[id.order as usize].replace(number))
         } else {
             self.below.register_term(id, number)
         }

@@ -1,19 +1,15 @@
 -- When two identifiers are the same, which an index takes, and how they are hashed. Assumes nothing.
-use Rattle.std.specs.Prelude.{◌≡◌, ℕ, ◌+◌, ◌*◌, ◌%◌, ◌^◌, Bool, true, false, ◌&&◌, Some, None, Option, ◌==◌, nat_lt, refl}
+use Rattle.std.specs.Prelude.{◌≡◌, ℕ, ◌+◌, ◌*◌, ◌%◌, ◌^◌, Bool, true, ◌&&◌, Some, None, Option, ◌==◌, nat_lt, refl}
+use Rattle.std.specs.Option.{option_eq}
 use Rattle.std.proofs.Common.{ap, ◌∙◌}
 use Rattle.std.proofs.lemmas.Bool.{eqb-true, eq-eqb, and_parts, and_from, false≢true}
 use Rattle.keys.specs.Keys.{Lawful}
 use Rattle.keys.specs.Mixing.{mixed}
 use Rattle.idents.specs.declared.ident.Ident.{Ident}
 
-abbrev pub same_namespace : Option ℕ → Option ℕ → Bool
-same_namespace None None = true
-same_namespace None (Some b) = false
-same_namespace (Some a) None = false
-same_namespace (Some a) (Some b) = a == b
-
+-- the namespaces are both none or one number, and the orders are equal
 abbrev pub same_ident : Ident → Ident → Bool
-same_ident a b = same_namespace a.namespace b.namespace && a.order == b.order
+same_ident a b = option_eq ◌==◌ a.namespace b.namespace && a.order == b.order
 
 abbrev pub in_range : Option ℕ → Bool
 in_range None = true
@@ -35,20 +31,20 @@ ident_word i = (i.order + (namespace_code i.namespace * 4294967296) % 2 ^ 64) % 
 abbrev pub ident_code : ℕ → Ident → ℕ
 ident_code seed i = mixed seed (ident_word i)
 
-same_namespace-is : (a b : Option ℕ) → same_namespace a b ≡ true → a ≡ b
+same_namespace-is : (a b : Option ℕ) → option_eq ◌==◌ a b ≡ true → a ≡ b
 same_namespace-is None None e = refl
 same_namespace-is None (Some b) e = absurd (false≢true e)
 same_namespace-is (Some a) None e = absurd (false≢true e)
 same_namespace-is (Some a) (Some b) e = ap (λ n. Some n) (eqb-true a b e)
 
-same_namespace-self : (a : Option ℕ) → same_namespace a a ≡ true
+same_namespace-self : (a : Option ℕ) → option_eq ◌==◌ a a ≡ true
 same_namespace-self None = refl
 same_namespace-self (Some a) = eq-eqb a a refl
 
 -- the same identifier is the same value
 pub same_is : (a b : Ident) → same_ident a b ≡ true → a ≡ b
 same_is a b e =
-    let parts = and_parts (same_namespace a.namespace b.namespace) (a.order == b.order) e in
+    let parts = and_parts (option_eq ◌==◌ a.namespace b.namespace) (a.order == b.order) e in
     made a.namespace b.namespace a.order b.order (same_namespace-is _ _ parts.0) (eqb-true _ _ parts.1)
   where
     of : Option ℕ → ℕ → Ident

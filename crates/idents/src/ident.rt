@@ -2,7 +2,7 @@ ghost use Rattle.std.specs.Prelude.{◌≡◌};
 ghost use Rattle.idents.specs.Idents.{proper_ident};
 
 // An identifier as an index takes it: the number of its namespace, or none, and its order.
-#[derive(Clone, Copy)]
+#[derive(Clone, Copy, PartialEq, Eq, Debug)]
 pub struct Ident {
     pub namespace: Option<u32>,
     pub order: u32,
@@ -13,9 +13,6 @@ impl Ident {
     pub fn is_proper(self) -> bool
         ensures { result ≡ proper_ident self }
     {
-        match self.namespace {
-            None => true,
-            Some(n) => n < 16777216,
-        }
+        self.namespace.is_none_or(|n| n < 16777216)
     }
 }

@@ -1,10 +1,12 @@
 // Identifiers: a namespace, `#`, and nothing or a small number.
-ghost use Rattle.std.specs.Prelude.{◌≡◌, ◌≤◌, is_ok};
-ghost use Rattle.std.specs.Option.{option_map};
+ghost use Rattle.std.specs.Prelude.{◌≡◌, is_ok, Some};
 ghost use Rattle.ids.specs.declared.id.IdFault.TheVariants.{Number};
-ghost use Rattle.ids.specs.Ids.{absent_if_empty, cut_at_hash, id_answer, ident, is_id, order_of, parts_said};
+ghost use Rattle.ids.specs.Ids.{cut_at_hash, id_answer, ident, is_id, order_of, parts_said};
+ghost use Rattle.ids.specs.Messages.{id_message};
 
 use super::number::{NumberFault, parse_small};
+use std::error::Error;
+use std::fmt;
 
 // Why a word is no identifier.
 #[derive(Clone, Copy, PartialEq, Eq, Debug)]
@@ -21,6 +23,19 @@ impl From<NumberFault> for IdFault {
     }
 }
 
+impl fmt::Display for IdFault {
+    ghost output = { λ f. Some (id_message f) };
+
+    fn fmt<W: fmt::Write>(&self, f: &mut fmt::Formatter<W>) -> fmt::Result {
+        match self {
+            IdFault::NoHash => write!(f, "has no `#`"),
+            IdFault::Number(fault) => write!(f, "the number after `#` {fault}"),
+        }
+    }
+}
+
+impl Error for IdFault {}
+
 // An identifier as it is written: the namespace is a part of the word.
 #[derive(Clone, Copy)]
 pub struct IdText<'a> {
@@ -33,10 +48,7 @@ impl<'a> IdText<'a> {
     pub fn order(&self) -> u64
         ensures { result ≡ order_of self.now.number }
     {
-        match self.number {
-            None => 0,
-            Some(n) => u64::from(n) + 1,
-        }
+        self.number.map_or(0, |n| u64::from(n) + 1)
     }
 }
 
@@ -44,18 +56,8 @@ impl<'a> IdText<'a> {
 fn cut_at_hash(w: &[u8]) -> Option<(&[u8], &[u8])>
     ensures { parts_said result ≡ cut_at_hash w.now }
 {
-    for (i, b) in w.iter().enumerate() {
-        if *b == b'#' {
-            return Some((&w[0..i], &w[i + 1..]));
-        }
-    }
-    None
-}
-
-fn absent_if_empty(s: &[u8]) -> Option<&[u8]>
-    ensures { option_map (λ x. x.now) result ≡ absent_if_empty s.now }
-{
-    if s.is_empty() { None } else { Some(s) }
+    let i = w.iter().position(|b| *b == b'#')?;
+    Some((&w[..i], &w[i + 1..]))
 }
 
 // The identifier that `w` writes.
@@ -63,17 +65,14 @@ pub fn parse_id(w: &[u8]) -> Result<IdText<'_>, IdFault>
     ensures { id_answer result ≡ ident w.now }
 {
     let (space, rest) = cut_at_hash(w).ok_or(IdFault::NoHash)?;
-    let namespace = absent_if_empty(space);
-    if rest.is_empty() {
-        return Ok(IdText {
-            namespace,
-            number: None,
-        });
-    }
-    let number = parse_small(rest)?;
+    let number = if rest.is_empty() {
+        None
+    } else {
+        Some(parse_small(rest)?)
+    };
     Ok(IdText {
-        namespace,
-        number: Some(number),
+        namespace: Some(space).filter(|s| !s.is_empty()),
+        number,
     })
 }
 

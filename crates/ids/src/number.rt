@@ -1,6 +1,10 @@
 // Numbers: at most one plus sign, then one or more decimal digits, with a value up to a limit.
-ghost use Rattle.std.specs.Prelude.{◌≡◌, ◌+◌, ◌^◌, ◌<◌, ◌≤◌, length, IfOk};
-ghost use Rattle.ids.specs.Numbers.{digit, number_up_to, numeral, sign, small};
+ghost use Rattle.std.specs.Prelude.{◌≡◌, ◌+◌, ◌^◌, ◌<◌, ◌≤◌, length, IfOk, Some};
+ghost use Rattle.ids.specs.Messages.{number_message};
+ghost use Rattle.ids.specs.Numbers.{number_up_to, numeral, small};
+
+use std::error::Error;
+use std::fmt;
 
 // The largest small number: one less than the largest that 32 bits hold.
 pub const LARGEST_SMALL: u32 = 4_294_967_294;
@@ -16,22 +20,24 @@ pub enum NumberFault {
     TooLarge,
 }
 
-fn is_digit(b: u8) -> bool
-    ensures { result ≡ digit b }
-{
-    matches!(b, b'0'..=b'9')
+impl fmt::Display for NumberFault {
+    ghost output = { λ f. Some (number_message f) };
+
+    fn fmt<W: fmt::Write>(&self, f: &mut fmt::Formatter<W>) -> fmt::Result {
+        match self {
+            NumberFault::Empty => write!(f, "has no digit"),
+            NumberFault::NotDigit(place) => {
+                write!(f, "has a byte that is no digit at place {place}")
+            }
+            NumberFault::TooLarge => write!(f, "is over 4294967294"),
+        }
+    }
 }
 
-// How many bytes the plus sign takes: 1 or 0.
-fn sign_len(w: &[u8]) -> usize
-    ensures value { result ≡ sign w.now }
-    ensures bound { result ≤ length w.now }
-{
-    if !w.is_empty() && w[0] == b'+' { 1 } else { 0 }
-}
+impl Error for NumberFault {}
 
 // The number that `ds` writes; `from` is the place of its first byte. A value over the limit is left at that, so that digits of any
-// number are read.
+// number are read. The place of the first bad byte is told, so a `fold` of the digits would be no plainer.
 fn read_digits(ds: &[u8], from: usize, limit: u64) -> Result<u64, NumberFault>
     requires { from + length ds.now < 2 ^ 64 }
     ensures { result ≡ numeral limit from ds.now }
@@ -42,7 +48,7 @@ fn read_digits(ds: &[u8], from: usize, limit: u64) -> Result<u64, NumberFault>
     let most = u128::from(limit);
     let mut value: u128 = 0;
     for (i, b) in ds.iter().enumerate() {
-        if !is_digit(*b) {
+        if !b.is_ascii_digit() {
             return Err(NumberFault::NotDigit(from + i));
         }
         if value <= most {
@@ -59,8 +65,9 @@ fn read_digits(ds: &[u8], from: usize, limit: u64) -> Result<u64, NumberFault>
 pub fn parse_number(w: &[u8], limit: u64) -> Result<u64, NumberFault>
     ensures { result ≡ number_up_to limit w.now }
 {
-    let from = sign_len(w);
-    read_digits(&w[from..], from, limit)
+    let digits = w.strip_prefix(b"+").unwrap_or(w);
+    let from = w.len() - digits.len();
+    read_digits(digits, from, limit)
 }
 
 // The small number that `w` writes.

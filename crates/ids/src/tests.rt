@@ -75,3 +75,17 @@ fn no_identifiers(rt: HostRuntime) {
     assert!(rt; matches!(parse_id(b"#+"), Err(IdFault::Number(NumberFault::Empty))));
     assert!(rt; !is_id(b"5"));
 }
+
+#[test]
+fn printed(rt: HostRuntime) -> Result<(), Fail> {
+    let alloc = rt.alloc();
+    let bare = IdFault::NoHash.to_string(alloc)?;
+    assert!(rt; bare.as_str() == "has no `#`");
+    let empty = NumberFault::Empty.to_string(alloc)?;
+    assert!(rt; empty.as_str() == "has no digit");
+    let large = NumberFault::TooLarge.to_string(alloc)?;
+    assert!(rt; large.as_str() == "is over 4294967294");
+    let inner = IdFault::Number(NumberFault::NotDigit(10)).to_string(alloc)?;
+    assert!(rt; inner.as_str() == "the number after `#` has a byte that is no digit at place 10");
+    Ok(())
+}

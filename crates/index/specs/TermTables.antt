@@ -1,5 +1,6 @@
 -- The slot table as an index. Assumes nothing.
 use Rattle.std.specs.Prelude.{◌≡◌, ℕ, Bool, false, ◌&&◌, None}
+use Rattle.keys.specs.declared.key.Key.{Ghosts}
 use Rattle.keyed.specs.declared.table.SlotTable.{SlotTable}
 use Rattle.keyed.specs.Meaning.{Names, Kept}
 use Rattle.keyed.specs.Slots.{table_room}
@@ -16,5 +17,5 @@ abbrev pub NoneImproper : Names Ident ℕ → Type 0
 NoneImproper m = (i : Ident) → proper_ident i ≡ false → m.find i ≡ None
 
 -- what every fresh table of identifiers has and every call keeps
-abbrev pub TermTableSound : SlotTable Ident ℕ → Type 0
+abbrev pub TermTableSound : {key : Ghosts Ident} → SlotTable Ident ℕ key → Type 0
 TermTableSound t = TableSound same_ident ident_code t × NoneImproper (table_means same_ident t)

@@ -5,13 +5,14 @@ use crate::map::TermIdToIdxMap;
 use idents::ident::Ident;
 
 // One of two: what was found, or what stands for it.
+// Not a Result: a rule of the project keeps this name and its two variants.
 #[derive(Clone, Copy)]
 pub enum Either<T, U> {
     Left(T),
     Right(U),
 }
 
-impl<T: Copy, U: Copy> Either<T, U> {
+impl<T, U> Either<T, U> {
     pub fn into_result(self) -> Result<T, U>
         ensures { result ≡ either_result self }
     {

@@ -11,11 +11,10 @@ mod tests {
     use crate::map::TermIdToIdxMap;
     use crate::table::term_table;
     use idents::ident::Ident;
-    use keyed::slot::Slot;
 
     #[test]
     fn table_as_an_index(rt: HostRuntime) {
-        let mut slots = [Slot::Free; 1];
+        let mut slots = [None; 1];
         let mut table = term_table(&mut slots, 5);
         let id = Ident {
             namespace: Some(2),

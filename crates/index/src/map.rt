@@ -22,6 +22,7 @@ pub trait TermIdToIdxMap {
     ghost roomy: { ℕ → Kept Ident → Ident → Bool };
 
     // What every fresh index has and every call keeps: a premise of the promises, and never asked of a caller.
+    // Not an invariant of the types: a front may be made over any index, and a table may hold what no index takes.
     ghost sound: { Self → Type 0 };
 
     // What each make shows.

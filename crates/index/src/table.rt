@@ -30,11 +30,7 @@ impl<'a> TermIdToIdxMap for SlotTable<'a, Ident, u32> {
     }
 
     fn room(&self, id: Ident) -> bool {
-        if id.is_proper() {
-            self.has_room(id)
-        } else {
-            false
-        }
+        id.is_proper() && self.has_room(id)
     }
 
     fn held(&self) -> usize {

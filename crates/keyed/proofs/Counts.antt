@@ -1,18 +1,11 @@
 -- Lists of keys without repeats: how many keys are held follows from which are. Assumes nothing.
-use Rattle.std.proofs.Common.{◌≡◌, ℕ, suc, ◌≤◌, Bool, true, false, cond, ◌||◌, List, [], ◌∷◌, ◌++◌, length, is_some, Some, Option, sym, refl, ap, ◌∙◌, subst, ⊎_elim, arith}
+use Rattle.std.proofs.Common.{◌≡◌, ℕ, suc, ◌≤◌, Bool, true, false, cond, ◌||◌, List, [], ◌∷◌, ◌++◌, length, is_some, Some, sym, refl, ap, ◌∙◌, subst, ⊎_elim, arith}
 use Rattle.std.proofs.lemmas.Bool.{both_ways, false≢true, cond-true, cond-false, cases_Bool, or_from, or_left, or_right, or_cases}
+use Rattle.std.specs.Cmp.{both_ways as both}
+use Rattle.std.proofs.Math.Bool.{or_assoc}
 use Rattle.keys.specs.Keys.{Lawful}
 use Rattle.keyed.specs.Meaning.{Names, Kept, kept, nothing, put, listed, NoRepeats, Finite}
-
--- two tests that imply each other
-both : (a b : Bool) → (a ≡ true → b ≡ true) → (b ≡ true → a ≡ true) → a ≡ b
-both true b f g = sym (f refl)
-both false true f g = g refl
-both false false f g = refl
-
-or_assoc : (a b c : Bool) → (a || (b || c)) ≡ ((a || b) || c)
-or_assoc true b c = refl
-or_assoc false b c = refl
+use Rattle.keyed.proofs.Makes.{some_or}
 
 or_none : (a b c : Bool) → (a ≡ true → c ≡ true) → c ≡ b → (a || c) ≡ b
 or_none true b c f e = sym (f refl) ∙ e
@@ -77,7 +70,7 @@ module _ {K : Type 0} {alike : K → K → Bool} {code : K → ℕ} (law : Lawfu
 
   pub listed-append : (k : K) (xs ys : List K) → listed alike k (xs ++ ys) ≡ (listed alike k xs || listed alike k ys)
   listed-append k [] ys = refl
-  listed-append k (x ∷ xs) ys = ap (λ b. alike k x || b) (listed-append k xs ys) ∙ or_assoc (alike k x) (listed alike k xs) (listed alike k ys)
+  listed-append k (x ∷ xs) ys = ap (λ b. alike k x || b) (listed-append k xs ys) ∙ sym (or_assoc (alike k x) (listed alike k xs) (listed alike k ys))
 
   pub apart_append : (xs ys : List K) → NoRepeats alike xs → NoRepeats alike ys → ((k : K) → listed alike k xs ≡ true → listed alike k ys ≡ false) → NoRepeats alike (xs ++ ys)
   apart_append [] ys ax ay none = ay
@@ -114,10 +107,6 @@ module _ {K : Type 0} {alike : K → K → Bool} {code : K → ℕ} (law : Lawfu
   -- what holds nothing
   pub nothing-finite : (proper : K → Bool) (V : Type 0) → Finite alike proper (kept (nothing {K = K} {V = V}))
   nothing-finite proper V = record { keys = []; apart = tt; many = refl; exact = λ k. refl; fit = λ k _. refl }
-
-  some_or : {V : Type 0} (b : Bool) (x : V) (o : Option V) → is_some (cond b (Some x) o) ≡ (b || is_some o)
-  some_or true x o = refl
-  some_or false x o = refl
 
   -- an entry of a proper key leaves the count right
   pub put-finite : {V : Type 0} (proper : K → Bool) → ((a b : K) → alike a b ≡ true → proper a ≡ proper b) → (m : Names K V) (k : K) (v : V) → proper k ≡ true → Finite alike proper (kept m) → Finite alike proper (kept (put alike m k v))

@@ -1,39 +1,39 @@
--- The first `most` elements of a list, lent and given back. Assumes nothing.
-use Rattle.std.proofs.Common.{◌≡◌, ℕ, ◌-◌, ◌<◌, ◌≤◌, min, List, ◌++◌, length, take, drop, sym, ap, ◌∙◌, ⊎_elim, append-nil, arith, take-append-drop, length-take}
-use native.Mathlib.Nat.{min_comm}
-use Rattle.std.proofs.lemmas.List.{take_all, take_at, drop_at, drop_all}
+-- The slots that a table uses, written and given back. Assumes nothing.
+use Rattle.std.proofs.Common.{◌≡◌, ℕ, ◌<◌, min, List, ◌++◌, length, get_or, take, drop, set, sym, ap, ◌∙◌, ⊎_elim, append-nil, arith, length-take, get_or-take}
+use Rattle.std.proofs.Math.Seq.{take-set-lt}
+use Rattle.std.proofs.lemmas.List.{take_all, take_at, drop_all, drop-set-lt}
+use Rattle.std.proofs.lemmas.Slice.{drop-append-drop}
 use Rattle.std.proofs.lemmas.Bool.{cases_lt}
+use Rattle.keyed.specs.Slots.{used, unused}
 
--- as many as are lent of xs
-module _ {A : Type 0} (most : ℕ) (xs : List A) (n : ℕ) (e : n ≡ min (length xs) most) where
-  abbrev m : ℕ
-  m = n - 0
+module _ {A : Type 0} (xs : List A) where
+  pub used_size : length (used xs) ≡ min 16777216 (length xs)
+  used_size = length-take 16777216 xs
 
-  ways : {P : Type 0} → (length xs ≤ most → m ≡ length xs → P) → (most < length xs → m ≡ most → P) → P
-  ways short long = ⊎_elim (λ lt. long lt (omega arith)) (λ le. short le (omega arith)) (cases_lt most (length xs))
+  module _ (i : ℕ) (x : A) (within : i < length (used xs)) where
+    pub used_at : get_or xs i x ≡ get_or (used xs) i x
+    used_at = sym (get_or-take 16777216 xs i x (omega (arith, used_size)))
 
-  pub part : take m xs ≡ take most xs
-  part = ways (λ le q. take_all m xs (omega arith) ∙ sym (take_all most xs le)) (λ _ q. ap (λ i. take i xs) q)
+    pub used-set : used (set xs i x) ≡ set (used xs) i x
+    used-set = take-set-lt 16777216 xs i x (omega (arith, used_size))
 
-  module _ (ys : List A) (long : length ys ≡ length (take m xs)) where
-    size : length ys ≡ m
-    size = long ∙ length-take m xs ∙ omega arith
+    pub unused-set : unused (set xs i x) ≡ unused xs
+    unused-set = drop-set-lt 16777216 xs i x (omega (arith, used_size))
 
-    -- the first ones are what came back
-    pub front-back : take most (ys ++ drop m xs) ≡ ys
-    front-back = ways
-        (λ le q. ap (λ z. take most (ys ++ z)) (drop_all m xs (omega arith)) ∙ ap (take most) (append-nil ys) ∙ take_all most ys (omega (arith, size)))
-        (λ _ q. take_at ys (drop m xs) most (size ∙ q))
+  -- where ys was written over the first n, which are those used
+  module _ (ys : List A) (n : ℕ) (few : n ≡ min 16777216 (length xs)) (size : length ys ≡ length (take n xs)) where
+    written_size : length ys ≡ n
+    written_size = size ∙ length-take n xs ∙ omega arith
 
-    -- the others are as they were
-    pub rest_back : drop most (ys ++ drop m xs) ≡ drop most xs
-    rest_back = ways
-        (λ le q. ap (λ z. drop most (ys ++ z)) (drop_all m xs (omega arith)) ∙ ap (drop most) (append-nil ys) ∙ drop_all most ys (omega (arith, size)) ∙ sym (drop_all most xs le))
-        (λ _ q. drop_at ys (drop m xs) most (size ∙ q) ∙ ap (λ i. drop i xs) q)
+    pub used-written : used (ys ++ drop n xs) ≡ ys
+    used-written =
+        ⊎_elim
+        (λ lt. take_at ys (drop n xs) 16777216 (omega (arith, written_size)))
+        (λ le. ap (λ z. used (ys ++ z)) (drop_all n xs (omega arith)) ∙ ap used (append-nil ys) ∙ take_all 16777216 ys (omega (arith, written_size)))
+        (cases_lt 16777216 (length xs))
 
-  -- what comes back as it was leaves all as it was
-  pub same_back : (ys : List A) → ys ≡ take m xs → ys ++ drop m xs ≡ xs
-  same_back ys same = ap (λ z. z ++ drop m xs) same ∙ take-append-drop m xs
+    pub unused-written : unused (ys ++ drop n xs) ≡ unused xs
+    unused-written = drop-append-drop n xs ys 16777216 (omega arith) written_size
 
-  pub part_size : length (take most xs) ≡ min (length xs) most
-  part_size = length-take most xs ∙ min_comm most (length xs)
+    pub written_few : length ys ≡ min (length xs) 16777216
+    written_few = omega (arith, written_size)

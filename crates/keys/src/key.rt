@@ -11,6 +11,8 @@ pub trait Key: Copy {
     // What each kind of key shows, whatever the seed.
     ghost laws: { (seed : ℕ) → Lawful alike (code seed) };
 
+    // Not `Eq`: the laws tie this equality to the hash, and each promise of a table names it; over `Eq` all of them would speak of a member
+    // of another trait, and each impl would show as much as now.
     fn same(self, other: Self) -> bool
         ensures { result ≡ alike self other };
 

@@ -2,6 +2,7 @@ ghost use Rattle.std.specs.Prelude.{◌≡◌};
 ghost use Rattle.keys.specs.Mixing.{folded, mixed};
 
 // One round: a product whose high half comes down into the low one.
+#[tactic(auto, unfolding(crate::specs::Mixing::folded))]
 fn round(x: u64, factor: u64) -> u64
     ensures { result ≡ folded x factor }
 {
@@ -10,6 +11,7 @@ fn round(x: u64, factor: u64) -> u64
 }
 
 // A word under a seed: equal words give equal numbers, and which others do depends on the seed.
+#[tactic(auto, unfolding(crate::specs::Mixing::mixed))]
 pub fn mix(seed: u64, word: u64) -> u64
     ensures { result ≡ mixed seed word }
 {

@@ -5,6 +5,8 @@ ghost use Rattle.keys.specs.Numbers.{number_laws};
 use crate::key::Key;
 use crate::mix::mix;
 
+// Beside that of u32, and not one impl for all that is `Into<u64>`: a clause knows `into` as a relation, and `alike` and `code` are
+// functions of the keys.
 impl Key for u64 {
     ghost alike = { nat_eq };
 

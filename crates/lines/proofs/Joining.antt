@@ -1,110 +1,85 @@
--- Physical lines joined to lines, as a loop goes over them. Assumes nothing.
-use Rattle.std.proofs.Common.{◌≡◌, ℕ, ◌+◌, ◌-◌, ◌<◌, ◌≤◌, Bool, true, false, cond, ◌||◌, ◌⊎◌, List, [], ◌∷◌, ◌++◌, length, get_or, take, drop, sym, refl, ap, ◌∙◌, inl, inr, ⊎_elim, sub-one, arith, take-add}
-use Rattle.std.proofs.lemmas.List.{append_assoc, take_rest, drop-drop, length-drop, length-append, take_more, get_or-drop}
-use Rattle.std.proofs.lemmas.Bool.{or_from, or_parts, true≢false}
+-- Physical lines joined to lines, and the first LF that ends a line. Assumes nothing.
+use Rattle.std.proofs.Common.{append-nil, Option, Some, None, MatchOption, not, ◌≡◌, ℕ, ◌+◌, ◌-◌, ◌<◌, ◌≤◌, Bool, true, false, cond, ◌||◌, List, [], ◌∷◌, ◌++◌, length, take, drop, sym, refl, ap, ◌∙◌, subst, sub-one, arith, take-add}
+use Rattle.std.proofs.lemmas.List.{append_assoc, drop-drop, length-drop, length-append, take_more, get_or-drop}
+use Rattle.std.proofs.lemmas.Bool.{or_parts}
+use Rattle.std.specs.Option.{option_map}
+use Rattle.std.proofs.lemmas.List.Sums.{prefix_len_passes}
 use Rattle.lines.specs.declared.LineMode.TheVariants.{Joined}
-use Rattle.lines.specs.Lines.{line_len, front, blank, begins, opens, ends_in, trimmed, onto, lines_of}
+use Rattle.lines.specs.Lines.{is_lf, ended, ends_at, FirstEnds, line_len, front, blank, begins, opens, trimmed, onto, lines_of}
 use Rattle.lines.proofs.Cut.{ended-cut, ended-none, piece_cut, up_next-front, lf_at}
 
 -- the first physical line, at what it leaves: n is what `line_feed` answered
 pub joined_cut : (xs : List ℕ) (n : ℕ) → n ≡ line_len xs → n < length xs →
     lines_of Joined xs ≡ cond (blank (front xs) || opens (drop (n + 1) xs)) (trimmed (take n xs) ∷ lines_of Joined (drop (n + 1) xs)) (onto (take n xs ++ 10 ∷ []) (lines_of Joined (drop (n + 1) xs)))
-joined_cut xs n e h =
-    let k : line_len xs < length xs = omega arith in
-    rw (e, ended-cut xs k, piece_cut xs k, up_next-front (drop (line_len xs + 1) xs)) refl
-
-pub joined_none : (xs : List ℕ) → length xs ≤ line_len xs → lines_of Joined xs ≡ []
-joined_none xs h = rw (ended-none xs h) refl
-
-pub onto-nothing : (ls : List (List ℕ)) → onto [] ls ≡ ls
-onto-nothing [] = refl
-onto-nothing (l ∷ ls) = refl
-
-pub onto-onto : (xs ys : List ℕ) (ls : List (List ℕ)) → onto xs (onto ys ls) ≡ onto (xs ++ ys) ls
-onto-onto xs ys [] = refl
-onto-onto xs ys (l ∷ ls) = ap (λ x. x ∷ ls) (sym (append_assoc xs ys l))
+joined_cut xs n e h = grind (arith, ended-cut xs, piece_cut xs, up_next-front (drop (n + 1) xs))
 
 trim_cons : (a : ℕ) (p : List ℕ) → 0 < length p → trimmed (a ∷ p) ≡ a ∷ trimmed p
-trim_cons a [] h = absurd (omega arith)
-trim_cons a (b ∷ p) h =
-    let P : Bool → Type 0 = λ t. cond t (a ∷ take (length p) (b ∷ p)) (a ∷ b ∷ p) ≡ a ∷ cond t (take (length p) (b ∷ p)) (b ∷ p) in
-    let at : (t : Bool) → P t = λ t. elim t as P [ true ↦ refl | false ↦ refl ] in
-    simp sub-one (at (ends_in 13 (b ∷ p)))
+trim_cons a [] h = grind arith
+trim_cons a (b ∷ p) h = simp sub-one (grind arith)
 
 -- a CR at the end of a part that is not empty is the one at the end of the whole
 pub trim_append : (xs p : List ℕ) → 0 < length p → trimmed (xs ++ p) ≡ xs ++ trimmed p
 trim_append [] p h = refl
-trim_append (x ∷ xs) p h = trim_cons x (xs ++ p) (simp length-append (omega arith)) ∙ ap (λ y. x ∷ y) (trim_append xs p h)
+trim_append (x ∷ xs) p h = grind (arith, trim_cons x (xs ++ p), trim_append xs p h, length-append {A = ℕ})
 
--- what the loop keeps: the bytes before `at` belong to the first line, and the physical line at `at` goes on from them
-pub record Running (s : List ℕ) (at : ℕ) (alone : Bool) : Type 0 where
-  pub within : at ≤ length s
-  pub lines : lines_of Joined s ≡ onto (take at s) (lines_of Joined (drop at s))
-  pub alone_is : alone ≡ blank (front (drop at s))
-  pub goes_on : (at ≡ 0) ⊎ (alone ≡ false)
+pub trim_after : (p l : List ℕ) → (p ++ 10 ∷ []) ++ trimmed l ≡ trimmed (p ++ 10 ∷ l)
+trim_after p [] = grind (arith, append-nil, trim_append p (10 ∷ []))
+trim_after p (c ∷ cs) = grind (arith, trim_append (p ++ 10 ∷ []) (c ∷ cs), append_assoc p (10 ∷ []) (c ∷ cs))
 
-pub start : (s : List ℕ) (alone : Bool) → alone ≡ blank (front s) → Running s 0 alone
-start s alone e = record { within = omega arith; lines = sym (onto-nothing (lines_of Joined s)); alone_is = e; goes_on = inl refl }
+-- r is the first LF that ends the line
+abbrev pub IsFirst : Bool → List ℕ → Option ℕ → Type 0
+IsFirst alone s r = MatchOption r ((k : ℕ) → k < length s → ends_at alone s k ≡ false) (λ i. (i < length s) × (ends_at alone s i ≡ true) × ((k : ℕ) → k < i → ends_at alone s k ≡ false))
 
-not_blank : (p : List ℕ) → blank p ≡ false → 0 < length p
-not_blank [] e = absurd (true≢false e)
-not_blank (b ∷ p) e = omega arith
+-- no LF stands before the first one, and that one ends the line as the physical lines on its two sides say
+before : (alone : Bool) (s : List ℕ) (k : ℕ) → k < line_len s → ends_at alone s k ≡ false
+before alone s k h = let e = prefix_len_passes (λ b. not (is_lf b)) s k 0 h in grind arith
 
--- the line that ends at `at + n`, in one part
-whole : (s : List ℕ) (at : ℕ) (alone : Bool) → Running s at alone → (n : ℕ) → n ≡ line_len (drop at s) → take at s ++ trimmed (take n (drop at s)) ≡ trimmed (take (at + n) s)
-whole s at alone r n e = rw take-add (⊎_elim
-    (λ z. rw z refl)
-    (λ f. sym (trim_append (take at s) (take n (drop at s)) (rw e (not_blank (front (drop at s)) (sym r.alone_is ∙ f)))))
-    r.goes_on)
+at_first : (alone : Bool) (s : List ℕ) → line_len s < length s → ends_at alone s (line_len s) ≡ (alone || opens (drop (line_len s + 1) s))
+at_first alone s h = let e = lf_at s h in grind arith
 
--- the bytes of the line so far, in one part
-longer-front : (s : List ℕ) (at n : ℕ) → n ≡ line_len (drop at s) → at + n < length s → take at s ++ (take n (drop at s) ++ 10 ∷ []) ≡ take (at + n + 1) s
-longer-front s at n e h =
-    let k : line_len (drop at s) < length (drop at s) = simp length-drop (omega arith) in
-    let lf : get_or s (at + n) 0 ≡ 10 = sym (get_or-drop at s n 0) ∙ ap (λ i. get_or (drop at s) i 0) e ∙ lf_at (drop at s) k in
-    sym (append_assoc (take at s) (take n (drop at s)) (10 ∷ [])) ∙ ap (λ y. y ++ 10 ∷ []) (sym (take-add at n s)) ∙ ap (λ b. take (at + n) s ++ b ∷ []) (sym lf) ∙ sym (take_more s (at + n) 0 h)
+here : (alone : Bool) (s : List ℕ) (r : Option ℕ) → line_len s < length s → (alone || opens (drop (line_len s + 1) s)) ≡ true → IsFirst alone s r → r ≡ Some (line_len s)
+here alone s None lt o h = grind (arith, at_first alone s lt, h (line_len s) lt)
+here alone s (Some i) lt o h = grind (arith, at_first alone s lt, before alone s i, h.2 (line_len s))
 
--- what is left after the physical line at `at`
-left_over : (s : List ℕ) (at n : ℕ) → drop (n + 1) (drop at s) ≡ drop (at + n + 1) s
-left_over s at n = drop-drop (n + 1) at s ∙ ap (λ i. drop i s) (omega arith)
+-- the same search in what is left behind n bytes
+later : (alone : Bool) (s : List ℕ) (n k : ℕ) → ends_at alone (drop n s) k ≡ ends_at alone s (n + k)
+later alone s n k = grind (arith, get_or-drop n s k 0, drop-drop (k + 1) n s)
 
--- one physical line more
-step : (s : List ℕ) (at : ℕ) (alone : Bool) → Running s at alone → (n : ℕ) → n ≡ line_len (drop at s) → at + n < length s →
-    lines_of Joined s ≡ onto (take at s) (cond (alone || opens (drop (at + n + 1) s)) (trimmed (take n (drop at s)) ∷ lines_of Joined (drop (at + n + 1) s)) (onto (take n (drop at s) ++ 10 ∷ []) (lines_of Joined (drop (at + n + 1) s))))
-step s at alone r n e h =
-    let k : n < length (drop at s) = simp length-drop (omega arith) in
-    let cut = joined_cut (drop at s) n e k in
-    r.lines ∙ ap (onto (take at s)) (cut
-    ∙ ap (λ t. cond (t || opens (drop (n + 1) (drop at s))) (trimmed (take n (drop at s)) ∷ lines_of Joined (drop (n + 1) (drop at s))) (onto (take n (drop at s) ++ 10 ∷ []) (lines_of Joined (drop (n + 1) (drop at s))))) (sym r.alone_is)
-    ∙ ap (λ ys. cond (alone || opens ys) (trimmed (take n (drop at s)) ∷ lines_of Joined ys) (onto (take n (drop at s) ++ 10 ∷ []) (lines_of Joined ys))) (left_over s at n))
+shift : (alone : Bool) (s : List ℕ) (n : ℕ) (r : Option ℕ) → ((k : ℕ) → k < n → ends_at alone s k ≡ false) → IsFirst alone s r → (q : Option ℕ) × IsFirst alone (drop n s) q × (r ≡ option_map (λ j. n + j) q)
+shift alone s n None f h = (None, (λ k lt. grind (arith, later alone s n k, h (n + k), length-drop n s)), refl)
+shift alone s n (Some i) f h =
+    let le : n ≤ i = grind (arith, f i) in
+    (Some (i - n), (grind (arith, length-drop n s), grind (arith, later alone s n (i - n)), λ k lt. grind (arith, later alone s n k, h.2 (n + k))), grind arith)
 
--- the physical line in `&s[at..]` ends before the end of the bytes
-pub below : (s : List ℕ) (at n : ℕ) → at ≤ length s → n ≤ length (take (length s - at) (drop at s)) → (at + n ≡ length s → ⊥) → at + n < length s
-below s at n w b h = let k : n ≤ length s - at = simp (take_rest, length-drop) at b in omega arith
+-- the line goes on after its first physical line: its end in what is left is its end in the whole
+longer : (s : List ℕ) (r q : Option ℕ) → r ≡ option_map (λ j. line_len s + 1 + j) q → line_len s < length s → lines_of Joined s ≡ onto (take (line_len s) s ++ 10 ∷ []) (lines_of Joined (drop (line_len s + 1) s)) → FirstEnds (drop (line_len s + 1) s) q → FirstEnds s r
+longer s r None r_is h e f = rw r_is (e ∙ ap (onto (take (line_len s) s ++ 10 ∷ [])) f)
+longer s r (Some i) r_is h e f =
+    let n = line_len s in
+    let t = drop (n + 1) s in
+    let lt : i < length s - (n + 1) = simp length-drop at f.0 in
+    let whole : take n s ++ 10 ∷ take i t ≡ take (n + 1 + i) s = rw (take-add (n + 1) i s, take_more s n 0 h, lf_at s h, append_assoc) refl in
+    let d : drop (i + 1) t ≡ drop (n + 1 + i + 1) s = drop-drop (i + 1) (n + 1) s ∙ ap (λ k. drop k s) (omega arith) in
+    rw r_is (omega arith, e ∙ ap (onto (take n s ++ 10 ∷ [])) f.1 ∙ ap (λ l. l ∷ lines_of Joined (drop (i + 1) t)) (trim_after (take n s) (take i t) ∙ ap trimmed whole) ∙ ap (λ y. trimmed (take (n + 1 + i) s) ∷ lines_of Joined y) d)
 
--- it ends the line
-pub stop : (s : List ℕ) (at : ℕ) (alone : Bool) → Running s at alone → (n : ℕ) → n ≡ line_len (drop at s) → at + n < length s → (alone || opens (drop (at + n + 1) s)) ≡ true →
-    lines_of Joined s ≡ trimmed (take (at + n) s) ∷ lines_of Joined (drop (at + n + 1) s)
-stop s at alone r n e h t =
-    let after = lines_of Joined (drop (at + n + 1) s) in
-    step s at alone r n e h
-    ∙ ap (λ u. onto (take at s) (cond u (trimmed (take n (drop at s)) ∷ after) (onto (take n (drop at s) ++ 10 ∷ []) after))) t
-    ∙ ap (λ l. l ∷ after) (whole s at alone r n e)
-
--- the line goes on
-pub more : (s : List ℕ) (at : ℕ) (alone : Bool) → Running s at alone → (n : ℕ) → n ≡ line_len (drop at s) → at + n < length s → alone ≡ false → opens (drop (at + n + 1) s) ≡ false → Running s (at + n + 1) false
-more s at alone r n e h f o =
-    let after = lines_of Joined (drop (at + n + 1) s) in
-    record {
-      within = omega arith;
-      lines = step s at alone r n e h
-          ∙ ap (λ u. onto (take at s) (cond u (trimmed (take n (drop at s)) ∷ after) (onto (take n (drop at s) ++ 10 ∷ []) after))) (or_from alone (opens (drop (at + n + 1) s)) f o)
-          ∙ onto-onto (take at s) (take n (drop at s) ++ 10 ∷ []) after
-          ∙ ap (λ y. onto y after) (longer-front s at n e h);
-      alone_is = sym (or_parts (begins (front (drop (at + n + 1) s))) (blank (front (drop (at + n + 1) s))) o).1;
-      goes_on = inr refl;
-    }
-
--- no LF ends it
-pub none : (s : List ℕ) (at : ℕ) (alone : Bool) → Running s at alone → (n : ℕ) → n ≡ line_len (drop at s) → at + n ≡ length s → lines_of Joined s ≡ []
-none s at alone r n e h = r.lines ∙ ap (onto (take at s)) (joined_none (drop at s) (simp length-drop (omega arith)))
+pub first_ends : (ps : List (List ℕ)) (s : List ℕ) (r : Option ℕ) → ended s ≡ ps → IsFirst (blank (front s)) s r → FirstEnds s r
+first_ends [] s None e h = rw e refl
+first_ends [] s (Some i) e h =
+    absurd (grind (arith, ended-cut s, before (blank (front s)) s i))
+first_ends (p ∷ ps) s r e h =
+    let n = line_len s in
+    let t = drop (n + 1) s in
+    let alone = blank (front s) in
+    let lt : n < length s = grind (arith, ended-none s) in
+    let left : ended t ≡ ps = let k = ended-cut s lt in cc in
+    let P : Bool → Type 0 = λ b. (alone || opens t) ≡ b → lines_of Joined s ≡ cond b (trimmed (take n s) ∷ lines_of Joined t) (onto (take n s ++ 10 ∷ []) (lines_of Joined t)) → FirstEnds s r in
+    let at : (b : Bool) → P b = λ b. elim b as P [
+      | true ↦ λ o j. subst (FirstEnds s) (sym (here alone s r lt o h)) (lt, j)
+      | false ↦ λ o j.
+          let k = or_parts alone (opens t) o in
+          let f : (i : ℕ) → i < n + 1 → ends_at alone s i ≡ false = λ i i_lt. grind (arith, before alone s i, at_first alone s lt) in
+          let q = shift alone s (n + 1) r f h in
+          let same = k.0 ∙ sym (or_parts (begins (front t)) (blank (front t)) k.1).1 in
+          longer s r q.0 q.2 lt j (first_ends ps t q.0 left (subst (λ b. IsFirst b t q.0) same q.1))
+    ] in
+    at (alone || opens t) refl (joined_cut s n refl lt)

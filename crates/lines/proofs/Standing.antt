@@ -1,30 +1,20 @@
 -- The laws of the lines. Assumes nothing.
-use Rattle.std.proofs.Common.{◌≡◌, ℕ, suc, ◌≤◌, Bool, true, false, cond, ◌||◌, ◌⊎◌, List, [], ◌∷◌, ◌++◌, length, sym, refl, ap, ◌∙◌, subst, inl, inr, ⊎_elim, arith}
+use Rattle.std.proofs.Common.{◌≡◌, ℕ, ◌≤◌, Bool, true, false, cond, ◌||◌, ◌⊎◌, List, [], ◌∷◌, ◌++◌, length, sym, refl, ap, ◌∙◌, subst, inl, inr, ⊎_elim, arith}
 use Rattle.std.specs.List.{AllByRecursion}
 use Rattle.std.proofs.lemmas.List.{append_assoc, append-nil, length-append}
 use Rattle.std.proofs.ByRecursion.{All-append}
-use Rattle.std.proofs.lemmas.Bool.{eqb-true, eq-eqb, or_parts, or_right, true≢false}
+use Rattle.std.proofs.lemmas.Bool.{eq-eqb, true≢false}
 use Rattle.lines.specs.declared.LineMode.{LineMode}
 use Rattle.lines.specs.declared.LineMode.TheVariants.{Joined, EachLine}
 use Rattle.lines.specs.Lines.{is_lf, held, longer, ended, piece, front, up_next, blank, begins, ends, opens, trimmed, onto, joined_lines, lines_of}
 use Rattle.lines.specs.Laws.{unended, written, Plain, ends_here, GoesOn, CutInto, LinesStand}
 use Rattle.lines.proofs.Cut.{front-more, nothing-ended, piece-held}
-use Rattle.lines.proofs.Joining.{trim_append}
+use Rattle.lines.proofs.Joining.{trim_after}
 
 -- the physical lines and the last piece are the bytes, and hold no LF
-longer-written : (b : ℕ) (bs : List ℕ) (f : List ℕ) (ps : List (List ℕ)) → written ps ++ f ≡ bs → written (longer b ps) ++ cond (held ps) f (b ∷ bs) ≡ b ∷ bs
-longer-written b bs f [] e = refl
-longer-written b bs f (p ∷ ps) e = ap (λ x. b ∷ x) e
-
 pub all_bytes : (bs : List ℕ) → written (ended bs) ++ piece bs ≡ bs
 all_bytes [] = refl
-all_bytes (b ∷ bs) =
-    let P : Bool → Type 0 = λ t. is_lf b ≡ t → written (cond t ([] ∷ ended bs) (longer b (ended bs))) ++ cond (t || held (ended bs)) (piece bs) (b ∷ bs) ≡ b ∷ bs in
-    let at : (t : Bool) → P t = λ t. elim t as P [
-      | true ↦ λ e. ap (λ x. 10 ∷ x) (all_bytes bs) ∙ ap (λ x. x ∷ bs) (sym (eqb-true b 10 e))
-      | false ↦ λ e. longer-written b bs (piece bs) (ended bs) (all_bytes bs)
-    ] in
-    at (is_lf b) refl
+all_bytes (b ∷ bs) = grind (arith, all_bytes bs)
 
 longer-plain : (b : ℕ) → is_lf b ≡ false → (ps : List (List ℕ)) → AllByRecursion Plain ps → AllByRecursion Plain (longer b ps)
 longer-plain b e [] h = tt
@@ -32,43 +22,26 @@ longer-plain b e (p ∷ ps) h = ((e, h.0), h.1)
 
 pub ended-plain : (bs : List ℕ) → AllByRecursion Plain (ended bs)
 ended-plain [] = tt
-ended-plain (b ∷ bs) =
-    let P : Bool → Type 0 = λ t. is_lf b ≡ t → AllByRecursion Plain (cond t ([] ∷ ended bs) (longer b (ended bs))) in
-    let at : (t : Bool) → P t = λ t. elim t as P [
-      | true ↦ λ e. (tt, ended-plain bs)
-      | false ↦ λ e. longer-plain b e (ended bs) (ended-plain bs)
-    ] in
-    at (is_lf b) refl
+ended-plain (b ∷ bs) = grind (arith, ended-plain bs, longer-plain)
 
 pub piece-plain : (bs : List ℕ) → Plain (piece bs)
 piece-plain [] = tt
-piece-plain (b ∷ bs) =
-    let P : Bool → Type 0 = λ t. (is_lf b || held (ended bs)) ≡ t → Plain (cond t (piece bs) (b ∷ bs)) in
-    let at : (t : Bool) → P t = λ t. elim t as P [
-      | true ↦ λ e. piece-plain bs
-      | false ↦ λ e. let k = or_parts (is_lf b) (held (ended bs)) e in (k.0, subst Plain (nothing-ended bs k.1) (piece-plain bs))
-    ] in
-    at (is_lf b || held (ended bs)) refl
+piece-plain (b ∷ bs) = grind (arith, piece-plain bs, nothing-ended bs)
 
 -- `EachLine`
 written-append : (ps qs : List (List ℕ)) → written (ps ++ qs) ≡ written ps ++ written qs
 written-append [] qs = refl
-written-append (p ∷ ps) qs = ap (λ x. p ++ 10 ∷ x) (written-append ps qs) ∙ sym (append_assoc p (10 ∷ written ps) (written qs))
+written-append (p ∷ ps) qs = grind (arith, written-append ps qs, append_assoc p (10 ∷ written ps) (written qs))
 
 last_written : (ps : List (List ℕ)) (f : List ℕ) → written ps ++ written (cond (held f) (f ∷ []) []) ≡ (written ps ++ f) ++ cond (held f) (10 ∷ []) []
-last_written ps [] = sym (append-nil (written ps ++ []))
-last_written ps (c ∷ cs) = sym (append_assoc (written ps) (c ∷ cs) (10 ∷ []))
+last_written ps [] = grind (arith, append-nil)
+last_written ps (c ∷ cs) = grind (arith, append_assoc)
 
 each_written : (bs : List ℕ) → written (lines_of EachLine bs) ≡ bs ++ cond (unended bs) (10 ∷ []) []
-each_written bs =
-    written-append (ended bs) (cond (held (piece bs)) (piece bs ∷ []) [])
-    ∙ last_written (ended bs) (piece bs)
-    ∙ ap (λ x. x ++ cond (held (piece bs)) (10 ∷ []) []) (all_bytes bs)
-    ∙ ap (λ t. bs ++ cond t (10 ∷ []) []) (piece-held bs)
+each_written bs = grind (arith, written-append (ended bs), last_written (ended bs) (piece bs), all_bytes bs, piece-held bs)
 
 last_plain : (f : List ℕ) → Plain f → AllByRecursion Plain (cond (held f) (f ∷ []) [])
-last_plain [] h = tt
-last_plain (c ∷ cs) h = (h, tt)
+last_plain f h = grind arith
 
 each_plain : (bs : List ℕ) → AllByRecursion Plain (lines_of EachLine bs)
 each_plain bs = All-append Plain (ended bs) (cond (held (piece bs)) (piece bs ∷ []) []) (ended-plain bs) (last_plain (piece bs) (piece-plain bs))
@@ -76,39 +49,31 @@ each_plain bs = All-append Plain (ended bs) (cond (held (piece bs)) (piece bs �
 -- a physical line at the front of bytes
 plain_front : (p r : List ℕ) → Plain p → front (p ++ 10 ∷ r) ≡ p
 plain_front [] r h = refl
-plain_front (b ∷ p) r h = front-more b (p ++ 10 ∷ r) h.0 ∙ ap (λ x. b ∷ x) (plain_front p r h.1)
+plain_front (b ∷ p) r h = grind (arith, front-more, plain_front p r h.1)
 
 plain_all : (f : List ℕ) → Plain f → front f ≡ f
 plain_all [] h = refl
-plain_all (b ∷ f) h = front-more b f h.0 ∙ ap (λ x. b ∷ x) (plain_all f h.1)
+plain_all (b ∷ f) h = grind (arith, front-more, plain_all f h.1)
 
 next_front : (ps : List (List ℕ)) (f : List ℕ) → AllByRecursion Plain ps → Plain f → front (written ps ++ f) ≡ up_next ps f
 next_front [] f hs h = plain_all f h
-next_front (p ∷ ps) f hs h = ap front (append_assoc p (10 ∷ written ps) f) ∙ plain_front p (written ps ++ f) hs.0
+next_front (p ∷ ps) f hs h = grind (arith, append_assoc, plain_front p)
 
 -- what stands after the last LF
 plain_ended : (p : List ℕ) → Plain p → ended p ≡ []
 plain_ended [] h = refl
-plain_ended (b ∷ p) h = ap (λ t. cond t ([] ∷ ended p) (longer b (ended p))) h.0 ∙ ap (longer b) (plain_ended p h.1)
+plain_ended (b ∷ p) h = grind (arith, plain_ended p h.1)
 
 plain_piece : (p : List ℕ) → Plain p → piece p ≡ p
-plain_piece p h = nothing-ended p (ap held (plain_ended p h))
-
-held-longer : (b : ℕ) (ps : List (List ℕ)) → held (longer b ps) ≡ held ps
-held-longer b [] = refl
-held-longer b (p ∷ ps) = refl
+plain_piece p h = grind (arith, nothing-ended p, plain_ended p h)
 
 held-ended : (p r : List ℕ) → held (ended (p ++ 10 ∷ r)) ≡ true
 held-ended [] r = refl
-held-ended (b ∷ p) r =
-    let P : Bool → Type 0 = λ t. held (cond t ([] ∷ ended (p ++ 10 ∷ r)) (longer b (ended (p ++ 10 ∷ r)))) ≡ true in
-    elim (is_lf b) as P [ true ↦ refl | false ↦ held-longer b (ended (p ++ 10 ∷ r)) ∙ held-ended p r ]
+held-ended (b ∷ p) r = grind (arith, held-ended p r)
 
 piece-after : (p r : List ℕ) → piece (p ++ 10 ∷ r) ≡ piece r
 piece-after [] r = refl
-piece-after (b ∷ p) r =
-    ap (λ t. cond t (piece (p ++ 10 ∷ r)) (b ∷ (p ++ 10 ∷ r))) (or_right (is_lf b) (held (ended (p ++ 10 ∷ r))) (held-ended p r))
-    ∙ piece-after p r
+piece-after (b ∷ p) r = grind (arith, piece-after p r, held-ended p r)
 
 -- an LF in p, an LF and r, where p has none: it is that one, or one of r
 split : (p r xs ys : List ℕ) → Plain p → p ++ 10 ∷ r ≡ xs ++ 10 ∷ ys →
@@ -132,17 +97,13 @@ plain_goes_on : (p ys : List ℕ) → Plain p → GoesOn p ys
 plain_goes_on p ys h xs zs e = absurd (no_lf xs zs (subst Plain e h))
 
 after_lf : (p l ys : List ℕ) → ends_here (p ++ 10 ∷ l) ys ≡ ends_here l ys
-after_lf p l ys = ap (λ x. blank x || opens ys) (piece-after p l)
+after_lf p l ys = grind (arith, piece-after p l)
 
 goes_on_more : (p l ys : List ℕ) → Plain p → ends_here p (l ++ ys) ≡ false → GoesOn l ys → GoesOn (p ++ 10 ∷ l) ys
 goes_on_more p l ys h f g xs zs e = ⊎_elim
-    (λ q. ap (λ x. ends_here x (zs ++ ys)) q.0 ∙ ap (λ z. ends_here p (z ++ ys)) q.1 ∙ f)
-    (λ q. ap (λ x. ends_here x (zs ++ ys)) q.1 ∙ after_lf p q.0 (zs ++ ys) ∙ g q.0 zs q.2)
+    (λ q. grind (arith, q.0, q.1))
+    (λ q. grind (arith, q.1, after_lf p q.0 (zs ++ ys), g q.0 zs q.2))
     (split p l xs zs h e)
-
-trim_after : (p l : List ℕ) → (p ++ 10 ∷ []) ++ trimmed l ≡ trimmed (p ++ 10 ∷ l)
-trim_after p [] = append-nil (p ++ 10 ∷ []) ∙ sym (trim_append p (10 ∷ []) (omega arith))
-trim_after p (c ∷ cs) = sym (trim_append (p ++ 10 ∷ []) (c ∷ cs) (omega arith)) ∙ ap trimmed (append_assoc p (10 ∷ []) (c ∷ cs))
 
 -- a physical line that does not end its line
 cut_onto : (p r : List ℕ) (ls : List (List ℕ)) → Plain p → ends_here p r ≡ false → CutInto r ls → CutInto (p ++ 10 ∷ r) (onto (p ++ 10 ∷ []) ls)
@@ -176,26 +137,18 @@ joined bs = subst (λ x. CutInto x (lines_of Joined bs)) (all_bytes bs) (joined_
 
 -- how many lines there are
 written-long : (ps : List (List ℕ)) → length ps ≤ length (written ps)
-written-long [] = omega arith
-written-long (p ∷ ps) = simp length-append (omega (arith, written-long ps))
+written-long [] = grind arith
+written-long (p ∷ ps) = grind (arith, written-long ps, length-append {A = ℕ})
 
 onto-long : (xs : List ℕ) (ls : List (List ℕ)) → length (onto xs ls) ≡ length ls
-onto-long xs [] = refl
-onto-long xs (l ∷ ls) = refl
+onto-long xs ls = grind arith
 
 joined_few : (ps : List (List ℕ)) (f : List ℕ) → length (joined_lines ps f) ≤ length ps
-joined_few [] f = omega arith
-joined_few (p ∷ ps) f =
-    let P : Bool → Type 0 = λ t. length (cond t (trimmed p ∷ joined_lines ps f) (onto (p ++ 10 ∷ []) (joined_lines ps f))) ≤ suc (length ps) in
-    elim (ends p (up_next ps f)) as P [ true ↦ omega (arith, joined_few ps f) | false ↦ omega (arith, joined_few ps f, onto-long (p ++ 10 ∷ []) (joined_lines ps f)) ]
-
-last_few : (f : List ℕ) → length (cond (held f) (f ∷ []) []) ≤ length f
-last_few [] = omega arith
-last_few (c ∷ cs) = omega arith
+joined_few [] f = grind arith
+joined_few (p ∷ ps) f = grind (arith, joined_few ps f, onto-long)
 
 pub few : (m : LineMode) (bs : List ℕ) → length (lines_of m bs) ≤ length bs
-few Joined bs = omega (arith, joined_few (ended bs) (piece bs), written-long (ended bs), simp length-append at (ap length (all_bytes bs)))
-few EachLine bs = simp length-append (omega (arith, last_few (piece bs), written-long (ended bs), simp length-append at (ap length (all_bytes bs))))
+few m bs = let e = ap length (all_bytes bs) in grind (arith, joined_few (ended bs) (piece bs), written-long (ended bs), length-append {A = ℕ}, length-append {A = List ℕ})
 
 pub lines_stand : LinesStand
 lines_stand = record { each_written = each_written; each_plain = each_plain; joined = joined; cut = piece-held; few = few }

@@ -1,5 +1,5 @@
 -- The lines of a trace file, from its bytes. Assumes nothing.
-use Rattle.std.specs.Prelude.{◌≡◌, ℕ, ◌+◌, ◌-◌, ◌<◌, Bool, true, false, cond, not, ◌&&◌, ◌||◌, List, [], ◌∷◌, ◌++◌, length, take, drop, Some, None, Option, ◌==◌}
+use Rattle.std.specs.Prelude.{◌≡◌, ℕ, ◌+◌, ◌-◌, ◌<◌, Bool, true, false, cond, not, ◌&&◌, ◌||◌, List, [], ◌∷◌, ◌++◌, length, slice_index, take, drop, Some, None, Option, ◌==◌}
 use Rattle.std.specs.Borrow.{Bor}
 use Rattle.std.specs.List.{prefix_len}
 use Rattle.words.specs.Words.{separates}
@@ -91,6 +91,10 @@ front bs = take (line_len bs) bs
 -- the physical line at the front cannot go on from the one before it
 abbrev pub opens : List ℕ → Bool
 opens bs = begins (front bs) || blank (front bs)
+
+-- at k stands an LF that ends the first line, where no LF before it does; `alone` says that the physical line at the front is blank
+abbrev pub ends_at : Bool → List ℕ → ℕ → Bool
+ends_at alone s k = is_lf (slice_index s k) && (alone || opens (drop (k + 1) s))
 
 -- the first line of `Joined` ends before the LF at n, or there is none
 abbrev pub FirstEnds : List ℕ → Option ℕ → Type 0

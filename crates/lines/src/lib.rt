@@ -1,11 +1,10 @@
 // The lines of a trace file, one by one. The lines are parts of the file's bytes.
 #![tactic(auto)]
 
-ghost use Rattle.std.specs.Prelude.{◌≡◌, ◌≤◌, length};
-ghost use Rattle.lines.specs.Lines.{lines_of, cut_off, ahead, line_len, front, blank, opens, ends_in, trimmed, FirstEnds};
+ghost use Rattle.std.specs.Prelude.{◌≡◌, ◌<◌, ◌≤◌, length};
+ghost use Rattle.lines.specs.Lines.{lines_of, cut_off, ahead, line_len, front, blank, opens, trimmed, ends_at, FirstEnds};
 ghost use Rattle.lines.specs.Laws.{LinesStand};
-ghost use Rattle.words.specs.Words.{first_of, rest_of};
-ghost use Rattle.std.specs.Option.{option_map};
+ghost use Rattle.std.specs.Iterator.{YieldsFirstRef, item_count};
 
 // How a file is cut into lines.
 #[derive(Clone, Copy, PartialEq, Eq, Debug)]
@@ -22,77 +21,47 @@ fn line_feed(s: &[u8]) -> usize
     ensures value { result ≡ line_len s.now }
     ensures bound { result ≤ length s.now }
 {
-    for (i, b) in s.iter().enumerate() {
-        if *b == b'\n' {
-            return i;
-        }
-    }
-    s.len()
+    s.iter().position(|b| *b == b'\n').unwrap_or(s.len())
 }
 
 // Whether the bytes before the first LF are all separators.
 fn starts_blank(s: &[u8]) -> bool
     ensures { result ≡ blank (front s.now) }
 {
-    for b in s {
-        if *b == b'\n' {
-            return true;
-        }
-        if !words::is_separator(*b) {
-            return false;
-        }
-    }
-    true
+    s.iter()
+        .take_while(|b| **b != b'\n')
+        .all(|b| words::is_separator(*b))
 }
 
 // Whether the physical line at the front cannot go on from the one before it: it begins with `[`, or is blank.
 fn opens_line(s: &[u8]) -> bool
     ensures { result ≡ opens s.now }
 {
-    if !s.is_empty() && s[0] == b'[' {
-        return true;
-    }
-    starts_blank(s)
+    s.starts_with(b"[") || starts_blank(s)
+}
+
+// Whether there is an LF at `at` that ends the first line, where no LF before it does. `alone` says that the physical line at the front is
+// blank: only the first can be, since no line goes on into a blank one.
+fn ends_at(s: &[u8], alone: bool, at: usize) -> bool
+    requires { at < length s.now }
+    ensures { result ≡ ends_at alone s.now at }
+{
+    s[at] == b'\n' && (alone || opens_line(&s[at + 1..]))
 }
 
 // How many bytes stand before the LF that ends the first line, over the LFs in names; none if no LF ends it.
-// `alone` says that the physical line at `at` is blank: only the first can be, since no line goes on into a blank one.
 fn joined_end(s: &[u8]) -> Option<usize>
     ensures { FirstEnds s.now result }
 {
-    let mut alone = starts_blank(s);
-    let mut at = 0;
-    loop {
-        let end = at + line_feed(&s[at..]);
-        if end == s.len() {
-            return None;
-        }
-        if alone || opens_line(&s[end + 1..]) {
-            return Some(end);
-        }
-        alone = false;
-        at = end + 1;
-    }
-}
-
-// Whether b is the last byte.
-fn ends_in(s: &[u8], b: u8) -> bool
-    ensures { result ≡ ends_in b s.now }
-{
-    match s.last() {
-        Some(last) => *last == b,
-        None => false,
-    }
+    let alone = starts_blank(s);
+    (0..s.len()).find(|at| ends_at(s, alone, *at))
 }
 
 // The line without one CR at its end.
 fn without_cr(line: &[u8]) -> &[u8]
     ensures { result.now ≡ trimmed line.now }
 {
-    if ends_in(line, b'\r') {
-        return &line[..line.len() - 1];
-    }
-    line
+    line.strip_suffix(b"\r").unwrap_or(line)
 }
 
 // The lines of what is left of a file. A copy goes on from the same place.
@@ -110,17 +79,23 @@ impl<'a> Lines<'a> {
     {
         Lines { left: bytes, mode }
     }
+}
+
+impl<'a> Iterator for Lines<'a> {
+    type Item = &'a [u8];
+
+    ghost next_gives = { YieldsFirstRef (λ s. ahead s.mode s.left) };
+
+    ghost remaining = { item_count (λ s. ahead s.mode s.left) };
 
     // The next line. None if there is none, and then at every later call too.
-    pub fn next(&mut self) -> Option<&'a [u8]>
-        ensures line { option_map (λ x. x.now) result ≡ first_of (ahead self.old.mode self.old.left) }
-        ensures rest { ahead self.new.mode self.new.left ≡ rest_of (ahead self.old.mode self.old.left) }
-    {
+    fn next(&mut self) -> Option<&'a [u8]> {
         let left = self.left;
+        // The user picks the mode when the program runs; a type for each would only move this match to the caller.
         match self.mode {
             LineMode::Joined => {
                 let Some(end) = joined_end(left) else {
-                    self.left = &left[left.len()..];
+                    self.left = &[];
                     return None;
                 };
                 self.left = &left[end + 1..];
@@ -143,7 +118,7 @@ pub fn cut_off(bytes: &[u8], mode: LineMode) -> bool
     ensures { result ≡ cut_off mode bytes.now }
 {
     match mode {
-        LineMode::Joined => !bytes.is_empty() && !ends_in(bytes, b'\n'),
+        LineMode::Joined => !bytes.is_empty() && !bytes.ends_with(b"\n"),
         LineMode::EachLine => false,
     }
 }
@@ -152,18 +127,9 @@ pub fn cut_off(bytes: &[u8], mode: LineMode) -> bool
 mod tests {
     use super::*;
 
-    // Whether these are the lines of the bytes, one by one.
+    // Whether these are the lines of the bytes.
     fn gives(bytes: &[u8], mode: LineMode, expected: &[&[u8]]) -> bool {
-        let mut lines = Lines::of(bytes, mode);
-        for line in expected {
-            let Some(next) = lines.next() else {
-                return false;
-            };
-            if next != *line {
-                return false;
-            }
-        }
-        lines.next().is_none()
+        Lines::of(bytes, mode).eq(expected.iter().copied())
     }
 
     #[test]

@@ -13,6 +13,7 @@ use idents::ident::Ident;
 use index::table::term_table;
 use keyed::slot::Slot;
 
+// Three functions and not one: each make is lent other memory.
 // In a table alone.
 pub fn in_table(
     slots: &mut [Slot<Ident, u32>],
@@ -73,7 +74,7 @@ mod tests {
     #[test]
     fn last_taken_is_found(rt: HostRuntime) {
         let mut orders = [None; LOW];
-        let mut slots = [Slot::Free; 2];
+        let mut slots = [None; 2];
         let mut entries = [
             entry(Some(3), 9, 1),
             entry(None, 9, 2),

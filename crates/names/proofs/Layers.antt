@@ -1,9 +1,8 @@
 -- Texts written over a memory, one behind the other. Assumes nothing.
-use Rattle.std.proofs.Common.{◌≡◌, ℕ, zero, suc, ◌+◌, ◌-◌, ◌≤◌, leb, List, [], ◌∷◌, ◌++◌, length, take, drop, Some, None, Option, sym, refl, ap, ◌∙◌, ⊎_elim, append_assoc, append-nil, suc-add, zero-add, arith, length-append, length-drop, drop_of_length-le, drop-drop, Bor}
+use Rattle.std.proofs.Common.{◌≡◌, ℕ, zero, suc, ◌+◌, ◌-◌, ◌≤◌, min, leb, List, [], ◌∷◌, ◌++◌, length, take, drop, Some, None, Option, sym, refl, ap, ◌∙◌, ⊎_elim, append_assoc, suc-add, zero-add, arith, length-append, Bor}
 use lib.ListN.{length-map}
 use Rattle.words.specs.Words.{ahead, size_left}
 use Rattle.words.proofs.Bytes.{spaces-words}
-use borrow.Rule.Slice.PartMut.{put_mid, post_of}
 use Rattle.std.proofs.lemmas.Bool.{cond-true, cond-false, cases_Bool, leb-true, leb-false, le-leb, lt-leb}
 use Rattle.ids.specs.Ids.{is_id}
 use Rattle.words.specs.Joined.{unwords, as_space}
@@ -28,34 +27,23 @@ laid-front [] m h = refl
 laid-front (x ∷ xs) [] h = absurd (omega arith)
 laid-front (x ∷ xs) (y ∷ m) h = ap (λ l. x ∷ l) (laid-front xs m (omega arith))
 
--- a text that fits, and one that is cut off at the end of the memory
-laid-fits : (xs m : List ℕ) → length xs ≤ length m → laid xs m ≡ xs ++ drop (length xs) m
-laid-fits [] m h = refl
-laid-fits (x ∷ xs) [] h = absurd (omega arith)
-laid-fits (x ∷ xs) (y ∷ m) h = ap (λ l. x ∷ l) (laid-fits xs m (omega arith))
+-- what is written, and what stays behind it
+laid_is : (xs m : List ℕ) (n : ℕ) → n ≡ min (length xs) (length m) → laid xs m ≡ take n xs ++ drop n m
+laid_is [] m zero e = refl
+laid_is [] m (suc n) e = absurd (omega arith)
+laid_is (x ∷ xs) [] zero e = refl
+laid_is (x ∷ xs) [] (suc n) e = absurd (omega arith)
+laid_is (x ∷ xs) (y ∷ m) zero e = absurd (omega arith)
+laid_is (x ∷ xs) (y ∷ m) (suc n) e = ap (λ l. x ∷ l) (laid_is xs m n (omega arith))
 
-laid-cut : (xs m : List ℕ) → length m ≤ length xs → laid xs m ≡ take (length m) xs
-laid-cut [] [] h = refl
-laid-cut [] (y ∷ m) h = absurd (omega arith)
-laid-cut (x ∷ xs) [] h = refl
-laid-cut (x ∷ xs) (y ∷ m) h = ap (λ l. x ∷ l) (laid-cut xs m (omega arith))
-
-pub at-fits : (n : ℕ) (xs m : List ℕ) → n + length xs ≤ length m → laid_at n xs m ≡ take n m ++ (xs ++ drop (n + length xs) m)
-at-fits zero xs m h = laid-fits xs m (omega arith) ∙ ap (λ k. xs ++ drop k m) (omega arith)
-at-fits (suc n) xs [] h = absurd (omega arith)
-at-fits (suc n) xs (y ∷ m) h = rw suc-add (ap (λ l. y ∷ l) (at-fits n xs m (omega arith)))
-
-pub at_cut : (n : ℕ) (xs m : List ℕ) → n ≤ length m → length m ≤ n + length xs → laid_at n xs m ≡ take n m ++ take (length m - n) xs
-at_cut zero xs m h l = laid-cut xs m (omega arith) ∙ ap (λ k. take k xs) (omega arith)
-at_cut (suc n) xs [] h l = absurd (omega arith)
-at_cut (suc n) xs (y ∷ m) h l = ap (λ l. y ∷ l) (at_cut n xs m (omega arith) (omega arith) ∙ ap (λ k. take n m ++ take k xs) (omega arith))
-
-pub at-past : (n : ℕ) (xs m : List ℕ) → length m ≤ n → laid_at n xs m ≡ m
-at-past zero [] m h = refl
-at-past zero (x ∷ xs) [] h = refl
-at-past zero (x ∷ xs) (y ∷ m) h = absurd (omega arith)
-at-past (suc n) xs [] h = refl
-at-past (suc n) xs (y ∷ m) h = ap (λ l. y ∷ l) (at-past n xs m (omega arith))
+pub laid_at_is : (e : ℕ) (xs m : List ℕ) (s n : ℕ) → s ≡ min e (length m) → n ≡ min (length xs) (length m - s) → laid_at e xs m ≡ take s m ++ (take n xs ++ drop (s + n) m)
+laid_at_is zero xs m zero n p q = rw zero-add (laid_is xs m n (omega arith))
+laid_at_is zero xs m (suc s) n p q = absurd (omega arith)
+laid_at_is (suc e) xs [] zero zero p q = refl
+laid_at_is (suc e) xs [] zero (suc n) p q = absurd (omega arith)
+laid_at_is (suc e) xs [] (suc s) n p q = absurd (omega arith)
+laid_at_is (suc e) xs (y ∷ m) zero n p q = absurd (omega arith)
+laid_at_is (suc e) xs (y ∷ m) (suc s) n p q = rw suc-add (ap (λ l. y ∷ l) (laid_at_is e xs m s n (omega arith) (omega arith)))
 
 pub at-behind : (n : ℕ) (xs ys m : List ℕ) → laid_at (n + length xs) ys (laid_at n xs m) ≡ laid_at n (xs ++ ys) m
 at-behind zero xs ys m = ap (λ k. laid_at k ys (laid xs m)) (zero-add (length xs)) ∙ laid-behind xs ys m
@@ -76,21 +64,12 @@ pub tail-some : (ms : List (List ℕ)) → 1 ≤ length (tail ms)
 tail-some [] = omega arith
 tail-some (w ∷ ms) = omega (arith, tail-long w ms)
 
--- what a write to a part of the memory leaves, at both ways of fitting
-pub put-fits : (n k : ℕ) (xs ys m : List ℕ) → ys ≡ xs → k ≡ length xs → n + length xs ≤ length m → put_mid n k m ys ≡ laid_at n xs m
-put-fits n k xs ys m e p h =
-    ap (λ l. take n m ++ (l ++ post_of n k m)) e ∙ ap (λ l. take n m ++ (xs ++ l)) (drop-drop k n m ∙ ap (λ j. drop j m) (omega arith)) ∙ sym (at-fits n xs m h)
-
-pub put-cut : (n k : ℕ) (xs ys m : List ℕ) → ys ≡ take (length m - n) xs → k ≡ length m - n → n ≤ length m → length m ≤ n + length xs → put_mid n k m ys ≡ laid_at n xs m
-put-cut n k xs ys m e p h l =
-    ap (λ z. take n m ++ (z ++ post_of n k m)) e ∙ ap (λ z. take n m ++ (take (length m - n) xs ++ z)) (drop_of_length-le (drop n m) (rw length-drop (omega arith))) ∙ ap (λ z. take n m ++ z) (append-nil (take (length m - n) xs)) ∙ sym (at_cut n xs m h l)
-
 -- no word is left for the name: all are the children's
 pub no_name : (ws : List (List ℕ)) → named ws ≡ [] → children ws ≡ ws
 no_name [] e = refl
 no_name (w ∷ ws) e = ⊎_elim
     (λ t. cond-true (is_id w) _ _ t)
-    (λ f. let n = sym (cond-false (is_id w) [] (w ∷ named ws) f) ∙ e in let z : ◌≡◌ {A = ℕ} 0 1 = cc in absurd (omega arith))
+    (λ f. let n = sym (cond-false (is_id w) [] (w ∷ named ws) f) ∙ e in cc)
     (cases_Bool (is_id w))
 
 -- behind the first word stand the others and the bar
@@ -130,22 +109,23 @@ tail-unwords : (w : List ℕ) (ms : List (List ℕ)) → length w + length (tail
 tail-unwords w ms = omega (arith, ap length (tail-words w ms), length-append w (tail ms), length-append (unwords (w ∷ ms)) (124 ∷ []))
 
 pub name_size : (o : Option (Bor (List ℕ))) (w : List ℕ) (ws : List (List ℕ)) → ahead o ≡ w ∷ ws → length w + length (tail (named ws)) ≤ size_left o
-name_size None w ws e = let z : ◌≡◌ {A = ℕ} 0 1 = cc in absurd (omega arith)
+name_size None w ws e = cc
 name_size (Some r) w ws e =
     let long : length (unwords (w ∷ ws)) ≡ length r.now = ap (λ l. length (unwords l)) (sym e) ∙ sym (ap length (spaces-words r.now)) ∙ length-map r.now as_space in
     omega (arith, tail-unwords w ws, named-few ws)
 
--- the bar, the first word, a space and the second word are written, and ms are still to come
-pub whole-laid : (w v : List ℕ) (ms : List (List ℕ)) (m a b c d e : List ℕ) (i j k l : ℕ) → i ≡ 0 + 1 → a ≡ laid_at 0 (124 ∷ []) m → j ≡ i + length w → b ≡ laid_at i w a → k ≡ j + 1 → c ≡ laid_at j (32 ∷ []) b → l ≡ k + length v → d ≡ laid_at k v c → e ≡ laid_at l (tail ms) d → e ≡ laid (barred (unwords (w ∷ v ∷ ms))) m
-whole-laid w v ms m a b c d e i j k l pi pa pj pb pk pc pl pd pe =
-    let start : b ≡ laid (124 ∷ w) m = pb ∙ ap (λ n. laid_at n w a) (pi ∙ zero-add 1) ∙ ap (laid_at 1 w) pa ∙ laid-behind (124 ∷ []) w m in
-    let place : j ≡ length (124 ∷ w) = omega arith in
-    pe
-    ∙ at-word j k l v ms b c d pk pc pl pd
-    ∙ ap (laid_at j (tail (v ∷ ms))) start
-    ∙ ap (λ n. laid_at n (tail (v ∷ ms)) (laid (124 ∷ w) m)) place
-    ∙ laid-behind (124 ∷ w) (tail (v ∷ ms)) m
-    ∙ ap (λ t. laid t m) (sym (tail-words w (v ∷ ms)))
+-- memory t is m with the text xs laid over it, which ends at e
+pub record Written (m xs : List ℕ) (e : ℕ) (t : List ℕ) : Type 0 where
+  pub end : e ≡ length xs
+  pub text : t ≡ laid xs m
 
-pub joined_long : (w v : List ℕ) (ms : List (List ℕ)) → length (barred (unwords (w ∷ v ∷ ms))) ≡ 1 + (length w + (1 + (length v + length (tail ms))))
-joined_long w v ms = omega (arith, ap length (tail-words w (v ∷ ms)), length-append w (tail (v ∷ ms)), tail-long v ms)
+-- one part more behind it
+pub written_more : {m xs t : List ℕ} {e : ℕ} → Written m xs e t → (ys : List ℕ) (f : ℕ) (u : List ℕ) → f ≡ e + length ys → u ≡ laid_at e ys t → Written m (xs ++ ys) f u
+written_more {m} {xs} {t} {e} h ys f u p q = record {
+  end = omega (arith, h.end, length-append xs ys);
+  text = q ∙ ap (laid_at e ys) h.text ∙ ap (λ n. laid_at n ys (laid xs m)) h.end ∙ laid-behind xs ys m;
+}
+
+-- the bar, the first word, a space, the second word, and what stands behind them
+pub whole : (w v : List ℕ) (ms : List (List ℕ)) → (124 ∷ []) ++ w ++ (32 ∷ []) ++ v ++ tail ms ≡ barred (unwords (w ∷ v ∷ ms))
+whole w v ms = ap (λ l. 124 ∷ l) (append_assoc (w ++ 32 ∷ []) v (tail ms) ∙ append_assoc w (32 ∷ []) (v ++ tail ms)) ∙ sym (tail-words w (v ∷ ms))

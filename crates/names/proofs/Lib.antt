@@ -1,4 +1,3 @@
 pub mod Layers
-pub mod Counting
 pub mod Quants
 pub mod Pieces

@@ -1,9 +1,12 @@
 -- The pieces of a joined text between `!` signs. Assumes nothing.
-use Rattle.std.proofs.Common.{◌≡◌, ℕ, suc, ◌+◌, ◌-◌, ◌*◌, ◌<◌, ◌≤◌, Bool, true, false, cond, not, ◌&&◌, eqb, ltb, leb, List, [], ◌∷◌, ◌++◌, length, take, drop, Ok, Err, Result, sym, refl, ap, ◌∙◌, subst, ⊎_elim, append_assoc, append-nil, suc-add, arith, length-append}
+use Rattle.std.proofs.Common.{◌≡◌, ℕ, ◌+◌, ◌-◌, ◌*◌, ◌<◌, ◌≤◌, Bool, true, false, cond, ◌&&◌, eqb, ltb, leb, List, [], ◌∷◌, ◌++◌, length, map, take, drop, position, Some, None, Ok, Err, Result, refl, ap, ◌∙◌, arith, length-append}
 use lib.ListN.{length-map}
-use Rattle.std.specs.List.{prefix_len, AllByRecursion}
-use Rattle.std.proofs.lemmas.Bool.{cond-true, cond-false, cases_Bool, eqb-true, ne_eqb, lt-leb, lt-ltb, cases_eq}
-use Rattle.std.proofs.lemmas.List.{take_all}
+use Rattle.std.specs.List.{prefix_len}
+use Rattle.std.proofs.lemmas.Bool.{cond-true, cond-false, ne_eqb, lt-leb, lt-ltb}
+use Rattle.std.proofs.lemmas.Bool.Decides.{nat_tests}
+use Rattle.std.proofs.lemmas.List.Folds.{prefix_len-append}
+use Rattle.std.proofs.lemmas.List.Sums.{prefix_len-le-length}
+use Rattle.std.proofs.lemmas.List.Splits.{length-slice_split}
 use Rattle.ids.specs.declared.number.NumberFault.{NumberFault}
 use Rattle.ids.specs.declared.number.NumberFault.TheVariants.{Empty, NotDigit, TooLarge}
 use Rattle.ids.specs.Numbers.{digit, worth_from, sign, unsigned, numeral, number_up_to}
@@ -12,7 +15,7 @@ use Rattle.words.specs.declared.joined.Bars.TheVariants.{Bare, Front, Both}
 use Rattle.words.specs.Words.{split_by, longer}
 use Rattle.words.specs.Joined.{as_space, spaces, joined_text, front_bars}
 use Rattle.words.proofs.Bytes.{space_same}
-use Rattle.words.proofs.Cut.{before}
+use Rattle.words.proofs.Cut.{taken_at, taken_none}
 use Rattle.names.specs.QuantKinds.{bang, by_name, if_number, of_pieces, quant_kind}
 
 space_bang : (b : ℕ) → bang (as_space b) ≡ bang b
@@ -61,152 +64,89 @@ number-spaces l s = ap (λ k. numeral l k (unsigned (spaces s))) (sign-spaces s)
         ∙ ap (λ d. shape l k (length ds) d (worth_from 0 (spaces ds))) (leading_spaces digit space_digit ds)
         ∙ ap (shape l k (length ds) (prefix_len digit ds)) (worth-spaces 0 ds)
 
--- no `!` among the bytes
-abbrev pub Free : List ℕ → Type 0
-Free s = AllByRecursion (λ b. bang b ≡ false) s
+-- ---- the pieces of a joined text: those of its span, with spaces for separators, and with its bars
+abbrev onto_last : ℕ → List (List ℕ) → List (List ℕ)
+onto_last x [] = []
+onto_last x (w ∷ []) = (w ++ x ∷ []) ∷ []
+onto_last x (w ∷ v ∷ ws) = w ∷ onto_last x (v ∷ ws)
 
-free_both : (x y : List ℕ) → Free x → Free y → Free (x ++ y)
-free_both [] y h k = k
-free_both (b ∷ x) y h k = (h.0, free_both x y h.1 k)
+abbrev dressed : Bars → List (List ℕ) → List (List ℕ)
+dressed Bare ws = ws
+dressed Front ws = longer 124 ws
+dressed Both ws = longer 124 (onto_last 124 ws)
 
-free_spaces : (s : List ℕ) → Free s → Free (spaces s)
-free_spaces [] h = tt
-free_spaces (b ∷ s) h = (space_bang b ∙ h.0, free_spaces s h.1)
+pieces-spaces : (s : List ℕ) → split_by bang (spaces s) ≡ map spaces (split_by bang s)
+pieces-spaces [] = refl
+pieces-spaces (b ∷ s) = ap (λ t. cond t ([] ∷ split_by bang (spaces s)) (longer (as_space b) (split_by bang (spaces s)))) (space_bang b) ∙ ap (λ ws. cond (bang b) ([] ∷ ws) (longer (as_space b) ws)) (pieces-spaces s) ∙ by (bang b) (split_by bang s)
+  where
+    by : (t : Bool) (ws : List (List ℕ)) → cond t ([] ∷ map spaces ws) (longer (as_space b) (map spaces ws)) ≡ map spaces (cond t ([] ∷ ws) (longer b ws))
+    by true ws = refl
+    by false [] = refl
+    by false (w ∷ ws) = refl
 
-pieces_one : (x : List ℕ) → Free x → split_by bang x ≡ x ∷ []
-pieces_one [] h = refl
-pieces_one (b ∷ x) h = cond-false (bang b) _ _ h.0 ∙ ap (longer b) (pieces_one x h.1)
+pieces_bar : (s : List ℕ) → split_by bang (s ++ 124 ∷ []) ≡ onto_last 124 (split_by bang s)
+pieces_bar [] = refl
+pieces_bar (b ∷ s) = ap (λ ws. cond (bang b) ([] ∷ ws) (longer b ws)) (pieces_bar s) ∙ by (bang b) (split_by bang s) (omega (arith, length-slice_split bang s))
+  where
+    by : (t : Bool) (ws : List (List ℕ)) → 0 < length ws → cond t ([] ∷ onto_last 124 ws) (longer b (onto_last 124 ws)) ≡ onto_last 124 (cond t ([] ∷ ws) (longer b ws))
+    by t [] h = absurd (omega arith)
+    by true (w ∷ ws) h = refl
+    by false (w ∷ []) h = refl
+    by false (w ∷ v ∷ ws) h = refl
 
-pieces_more : (x y : List ℕ) → Free x → split_by bang (x ++ 33 ∷ y) ≡ x ∷ split_by bang y
-pieces_more [] y h = refl
-pieces_more (b ∷ x) y h = cond-false (bang b) _ _ h.0 ∙ ap (longer b) (pieces_more x y h.1)
-
--- the bytes before the first `!`, and those behind it
-pub free_all : (s : List ℕ) → length s ≤ before bang s → Free s
-free_all [] h = tt
-free_all (b ∷ s) h = ⊎_elim
-    (λ t. let e = ap (λ u. cond (not u) (1 + before bang s) 0) t in absurd (omega arith))
-    (λ f. let e = ap (λ u. cond (not u) (1 + before bang s) 0) f in (f, free_all s (omega arith)))
-    (cases_Bool (bang b))
-
-pub record Cut (s a r : List ℕ) : Type 0 where
-  pub parts : s ≡ a ++ 33 ∷ r
-  pub free : Free a
-
-pub cut_at : (s : List ℕ) (i : ℕ) → i ≡ before bang s → i < length s → Cut s (take i s) (drop (i + 1) s)
-cut_at [] i e h = absurd (omega arith)
-cut_at (b ∷ s) i e h = ⊎_elim
-    (λ t. let z = ap (λ u. cond (not u) (1 + before bang s) 0) t in let none : i ≡ 0 = omega arith in rw none (record { parts = ap (λ x. x ∷ s) (eqb-true b 33 t); free = tt }))
-    (λ f. let z = ap (λ u. cond (not u) (1 + before bang s) 0) f in
-    let more : i ≡ suc (before bang s) = omega arith in
-    let rest = cut_at s (before bang s) refl (omega arith) in
-    rw (more, suc-add) (record { parts = ap (λ l. b ∷ l) rest.parts; free = (f, rest.free) }))
-    (cases_Bool (bang b))
+pieces-joined : (b : Bars) (s : List ℕ) → split_by bang (joined_text b s) ≡ dressed b (map spaces (split_by bang s))
+pieces-joined Bare s = pieces-spaces s
+pieces-joined Front s = ap (longer 124) (pieces-spaces s)
+pieces-joined Both s = ap (longer 124) (pieces_bar (spaces s) ∙ ap (onto_last 124) (pieces-spaces s))
 
 -- a text that ends with a bar is no number
-leading_bar : (y : List ℕ) → prefix_len digit (y ++ 124 ∷ []) ≤ length y
-leading_bar [] = omega arith
-leading_bar (b ∷ y) = ⊎_elim
-    (λ t. let e = ap (λ u. cond u (1 + prefix_len digit (y ++ 124 ∷ [])) 0) t in omega (arith, leading_bar y))
-    (λ f. let e = ap (λ u. cond u (1 + prefix_len digit (y ++ 124 ∷ [])) 0) f in omega arith)
-    (cases_Bool (digit b))
-
-bar_numeral : (l k : ℕ) (y : List ℕ) → numeral l k (y ++ 124 ∷ []) ≡ Err (NotDigit (k + prefix_len digit (y ++ 124 ∷ [])))
-bar_numeral l k y =
+bar_numeral : (l k : ℕ) (y t p : List ℕ) → if_number t p (numeral l k (y ++ 124 ∷ [])) ≡ by_name t
+bar_numeral l k y t p =
     let long = length-append y (124 ∷ []) in
-    cond-false (eqb (length (y ++ 124 ∷ [])) 0) _ _ (ne_eqb _ 0 (λ e. absurd (omega arith))) ∙ cond-true (ltb (prefix_len digit (y ++ 124 ∷ [])) (length (y ++ 124 ∷ []))) _ _ (lt-ltb _ _ (omega (arith, leading_bar y)))
-
-unsigned-bar : (x : List ℕ) → (y : List ℕ) × (unsigned (x ++ 124 ∷ []) ≡ y ++ 124 ∷ [])
-unsigned-bar [] = ([], refl)
-unsigned-bar (b ∷ x) = (cond (eqb b 43) x (b ∷ x), out (eqb b 43))
-  where
-    out : (t : Bool) → cond t (x ++ 124 ∷ []) (b ∷ x ++ 124 ∷ []) ≡ cond t x (b ∷ x) ++ 124 ∷ []
-    out true = refl
-    out false = refl
+    let few = prefix_len-le-length digit y in
+    let lead : prefix_len digit (y ++ 124 ∷ []) ≤ length y = rw prefix_len-append (grind (arith, nat_tests)) in
+    ap (if_number t p) (cond-false (eqb (length (y ++ 124 ∷ [])) 0) _ _ (ne_eqb _ 0 (λ e. absurd (omega arith))) ∙ cond-true (ltb (prefix_len digit (y ++ 124 ∷ [])) (length (y ++ 124 ∷ []))) _ _ (lt-ltb _ _ (omega arith)))
 
 bar_number : (l : ℕ) (x t p : List ℕ) → if_number t p (number_up_to l (x ++ 124 ∷ [])) ≡ by_name t
-bar_number l x t p =
-    let k = sign (x ++ 124 ∷ []) in
-    let u = unsigned-bar x in
-    ap (if_number t p) (ap (numeral l k) u.1 ∙ bar_numeral l k u.0)
-
--- ---- the pieces of a joined text
-abbrev opening : Bars → List ℕ
-opening Bare = []
-opening Front = 124 ∷ []
-opening Both = 124 ∷ []
-
-abbrev closing : Bars → List ℕ
-closing Bare = []
-closing Front = []
-closing Both = 124 ∷ []
-
-text_parts : (b : Bars) (s : List ℕ) → joined_text b s ≡ opening b ++ (spaces s ++ closing b)
-text_parts Bare s = sym (append-nil (spaces s))
-text_parts Front s = ap (λ l. 124 ∷ l) (sym (append-nil (spaces s)))
-text_parts Both s = refl
-
-front-parts : (b : Bars) (s : List ℕ) → joined_text (front_bars b) s ≡ opening b ++ spaces s
-front-parts Bare s = refl
-front-parts Front s = refl
-front-parts Both s = refl
-
-free_opening : (b : Bars) → Free (opening b)
-free_opening Bare = tt
-free_opening Front = (refl, tt)
-free_opening Both = (refl, tt)
-
-free_closing : (b : Bars) → Free (closing b)
-free_closing Bare = tt
-free_closing Front = tt
-free_closing Both = (refl, tt)
-
-pub kind_none : (b : Bars) (s : List ℕ) → Free s → quant_kind (joined_text b s) ≡ by_name (joined_text b s)
-kind_none b s h =
-    let free : Free (opening b ++ (spaces s ++ closing b)) = free_both (opening b) (spaces s ++ closing b) (free_opening b) (free_both (spaces s) (closing b) (free_spaces s h) (free_closing b)) in
-    ap (of_pieces (joined_text b s)) (ap (split_by bang) (text_parts b s) ∙ pieces_one (opening b ++ (spaces s ++ closing b)) free)
-
-spaces-cut : (a r : List ℕ) → spaces (a ++ 33 ∷ r) ≡ spaces a ++ 33 ∷ spaces r
-spaces-cut [] r = refl
-spaces-cut (b ∷ a) r = ap (λ l. as_space b ∷ l) (spaces-cut a r)
-
--- the first piece, and what stands behind the first `!`
-first_piece : (b : Bars) (s a r : List ℕ) → Cut s a r → split_by bang (joined_text b s) ≡ joined_text (front_bars b) a ∷ split_by bang (spaces r ++ closing b)
-first_piece b s a r c =
-    ap (split_by bang) (text_parts b s ∙ ap (λ l. opening b ++ (l ++ closing b)) (ap spaces c.parts ∙ spaces-cut a r) ∙ ap (λ l. opening b ++ l) (append_assoc (spaces a) (33 ∷ spaces r) (closing b)) ∙ sym (append_assoc (opening b) (spaces a) (33 ∷ (spaces r ++ closing b))))
-    ∙ pieces_more (opening b ++ spaces a) (spaces r ++ closing b) (free_both (opening b) (spaces a) (free_opening b) (free_spaces a c.free))
-    ∙ ap (λ l. l ∷ split_by bang (spaces r ++ closing b)) (sym (front-parts b a))
-
-pub kind_bar : (s a r : List ℕ) → Cut s a r → Free r → quant_kind (joined_text Both s) ≡ by_name (joined_text Both s)
-kind_bar s a r c h =
-    ap (of_pieces (joined_text Both s)) (first_piece Both s a r c ∙ ap (λ l. joined_text Front a ∷ l) (pieces_one (spaces r ++ 124 ∷ []) (free_both (spaces r) (124 ∷ []) (free_spaces r h) (refl, tt))))
-    ∙ bar_number 18446744073709551615 (spaces r) (joined_text Both s) (joined_text Front a)
-
-pub kind_last : (b : Bars) (s a r : List ℕ) → Cut s a r → Free r → (b ≡ Both → ⊥) → quant_kind (joined_text b s) ≡ if_number (joined_text b s) (joined_text (front_bars b) a) (number_up_to 18446744073709551615 r)
-kind_last b s a r c h n =
-    ap (of_pieces (joined_text b s)) (first_piece b s a r c ∙ ap (λ l. joined_text (front_bars b) a ∷ split_by bang l) (ap (λ l. spaces r ++ l) (open_end b n) ∙ append-nil (spaces r)) ∙ ap (λ l. joined_text (front_bars b) a ∷ l) (pieces_one (spaces r) (free_spaces r h)))
-    ∙ ap (if_number (joined_text b s) (joined_text (front_bars b) a)) (number-spaces 18446744073709551615 r)
+bar_number l [] t p = bar_numeral l 0 [] t p
+bar_number l (b ∷ x) t p = by (eqb b 43)
   where
-    open_end : (b : Bars) → (b ≡ Both → ⊥) → closing b ≡ []
-    open_end Bare n = refl
-    open_end Front n = refl
-    open_end Both n = absurd (n refl)
+    by : (u : Bool) → if_number t p (numeral l (cond u 1 0) (cond u (x ++ 124 ∷ []) (b ∷ x ++ 124 ∷ []))) ≡ by_name t
+    by true = bar_numeral l 1 x t p
+    by false = bar_numeral l 0 (b ∷ x) t p
 
-pub kind_inner : (b : Bars) (s a r q z : List ℕ) → Cut s a r → Cut r q z → quant_kind (joined_text b s) ≡ if_number (joined_text b s) (joined_text (front_bars b) a) (number_up_to 18446744073709551615 q)
-kind_inner b s a r q z c d =
-    ap (of_pieces (joined_text b s)) (first_piece b s a r c ∙ ap (λ l. joined_text (front_bars b) a ∷ split_by bang l) (ap (λ l. l ++ closing b) (ap spaces d.parts ∙ spaces-cut q z) ∙ append_assoc (spaces q) (33 ∷ spaces z) (closing b)) ∙ ap (λ l. joined_text (front_bars b) a ∷ l) (pieces_more (spaces q) (spaces z ++ closing b) (free_spaces q d.free)))
-    ∙ ap (if_number (joined_text b s) (joined_text (front_bars b) a)) (number-spaces 18446744073709551615 q)
+-- ---- the name by the places of the first and the second `!` in its span
+module _ (s : List ℕ) where
+  by_pieces : (b : Bars) (ws : List (List ℕ)) → split_by bang s ≡ ws → quant_kind (joined_text b s) ≡ of_pieces (joined_text b s) (dressed b (map spaces ws))
+  by_pieces b ws e = ap (of_pieces (joined_text b s)) (pieces-joined b s ∙ ap (λ v. dressed b (map spaces v)) e)
 
--- what a reader knows that found the first `!` at i, and the second or the end at place j behind it
-pub kind_told : (b : Bars) (s r : List ℕ) (i j : ℕ) → i ≡ before bang s → i < length s → r ≡ drop (i + 1) s → j ≡ before bang r → j ≤ length r → (j ≡ length r → b ≡ Both → ⊥) → quant_kind (joined_text b s) ≡ if_number (joined_text b s) (joined_text (front_bars b) (take i s)) (number_up_to 18446744073709551615 (take j r))
-kind_told b s r i j e h er f l n =
-    let c : Cut s (take i s) r = subst (Cut s (take i s)) (sym er) (cut_at s i e h) in
-    ⊎_elim
-    (λ end. kind_last b s (take i s) r c (free_all r (omega arith)) (n end) ∙ ap (λ q. if_number (joined_text b s) (joined_text (front_bars b) (take i s)) (number_up_to 18446744073709551615 q)) (sym (take_all j r (omega arith))))
-    (λ more. kind_inner b s (take i s) r (take j r) (drop (j + 1) r) c (cut_at r j f (omega arith)))
-    (cases_eq j (length r))
+  numbered : (t p q : List ℕ) → if_number t p (number_up_to 18446744073709551615 (spaces q)) ≡ if_number t p (number_up_to 18446744073709551615 q)
+  numbered t p q = ap (if_number t p) (number-spaces 18446744073709551615 q)
 
-pub kind_closed : (b : Bars) (s r : List ℕ) (i j : ℕ) → i ≡ before bang s → i < length s → r ≡ drop (i + 1) s → j ≡ before bang r → j ≡ length r → b ≡ Both → quant_kind (joined_text b s) ≡ by_name (joined_text b s)
-kind_closed b s r i j e h er f l both =
-    let c : Cut s (take i s) r = subst (Cut s (take i s)) (sym er) (cut_at s i e h) in
-    rw both (kind_bar s (take i s) r c (free_all r (omega arith)))
+  pub told_none : (b : Bars) → position bang s ≡ None → quant_kind (joined_text b s) ≡ by_name (joined_text b s)
+  told_none Bare h = by_pieces Bare (s ∷ []) (taken_none bang s h)
+  told_none Front h = by_pieces Front (s ∷ []) (taken_none bang s h)
+  told_none Both h = by_pieces Both (s ∷ []) (taken_none bang s h)
+
+  module _ (i : ℕ) (h : position bang s ≡ Some i) where
+    two : position bang (drop (i + 1) s) ≡ None → split_by bang s ≡ take i s ∷ drop (i + 1) s ∷ []
+    two n = taken_at bang s i h ∙ ap (λ ws. take i s ∷ ws) (taken_none bang (drop (i + 1) s) n)
+
+    pub told_barred : position bang (drop (i + 1) s) ≡ None → quant_kind (joined_text Both s) ≡ by_name (joined_text Both s)
+    told_barred n = by_pieces Both (take i s ∷ drop (i + 1) s ∷ []) (two n) ∙ bar_number 18446744073709551615 (spaces (drop (i + 1) s)) (joined_text Both s) (124 ∷ spaces (take i s))
+
+    pub told_last : (b : Bars) → (b ≡ Both → ⊥) → position bang (drop (i + 1) s) ≡ None → quant_kind (joined_text b s) ≡ if_number (joined_text b s) (joined_text (front_bars b) (take i s)) (number_up_to 18446744073709551615 (drop (i + 1) s))
+    told_last Bare o n = by_pieces Bare (take i s ∷ drop (i + 1) s ∷ []) (two n) ∙ numbered _ _ (drop (i + 1) s)
+    told_last Front o n = by_pieces Front (take i s ∷ drop (i + 1) s ∷ []) (two n) ∙ numbered _ _ (drop (i + 1) s)
+    told_last Both o n = absurd (o refl)
+
+    more : (b : Bars) (q : List ℕ) (ws : List (List ℕ)) → 0 < length ws → split_by bang s ≡ take i s ∷ q ∷ ws → quant_kind (joined_text b s) ≡ if_number (joined_text b s) (joined_text (front_bars b) (take i s)) (number_up_to 18446744073709551615 q)
+    more b q [] l e = absurd (omega arith)
+    more Bare q (w ∷ ws) l e = by_pieces Bare (take i s ∷ q ∷ w ∷ ws) e ∙ numbered _ _ q
+    more Front q (w ∷ ws) l e = by_pieces Front (take i s ∷ q ∷ w ∷ ws) e ∙ numbered _ _ q
+    more Both q (w ∷ ws) l e = by_pieces Both (take i s ∷ q ∷ w ∷ ws) e ∙ numbered _ _ q
+
+    pub told_inner : (b : Bars) (j : ℕ) → position bang (drop (i + 1) s) ≡ Some j → quant_kind (joined_text b s) ≡ if_number (joined_text b s) (joined_text (front_bars b) (take i s)) (number_up_to 18446744073709551615 (take j (drop (i + 1) s)))
+    told_inner b j n =
+        let r = drop (i + 1) s in
+        more b (take j r) (split_by bang (drop (j + 1) r)) (omega (arith, length-slice_split bang (drop (j + 1) r))) (taken_at bang s i h ∙ ap (λ ws. take i s ∷ ws) (taken_at bang r j n))

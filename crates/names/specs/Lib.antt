@@ -1,4 +1,5 @@
 pub mod AppNames
 pub mod Writing
 pub mod QuantNames
+pub mod Messages
 pub mod QuantKinds

@@ -1,6 +1,7 @@
 -- The name of a quantifier and its variable count. Traces of a version of 4.9.0 or later (new) write a name with spaces between bars;
 -- older ones write it as it is. Assumes nothing.
-use Rattle.std.specs.Prelude.{ℕ, suc, ◌+◌, Bool, true, false, cond, not, ◌&&◌, List, [], ◌∷◌, take, drop, is_ok, Some, None, Ok, Err, Option, Result, ◌==◌, nat_lt}
+use Rattle.std.specs.Prelude.{ℕ, suc, ◌+◌, Bool, true, false, cond, not, ◌&&◌, List, [], ◌∷◌, take, drop, is_ok, Some, None, Ok, Err, Option, Result, codes, position, nat_eq, nat_lt}
+use Rattle.std.specs.List.{starts_with, ends_with}
 use Rattle.std.specs.Option.{option_map}
 use Rattle.ids.specs.declared.number.NumberFault.{NumberFault}
 use Rattle.ids.specs.Numbers.{small}
@@ -13,23 +14,18 @@ use Rattle.names.specs.declared.quant.QidFault.TheVariants.{Missing, Count}
 
 -- a word begins with a bar, and ends with one; a single bar does both
 abbrev pub opens : List ℕ → Bool
-opens [] = false
-opens (b ∷ bs) = b == 124
+opens w = starts_with nat_eq w (codes "|")
 
 abbrev pub closes : List ℕ → Bool
-closes [] = false
-closes (b ∷ []) = b == 124
-closes (b ∷ c ∷ bs) = closes (c ∷ bs)
+closes w = ends_with nat_eq w (codes "|")
 
 -- how many words there are up to and including the first that ends with a bar
 abbrev pub up_to_bar : List (List ℕ) → Option ℕ
-up_to_bar [] = None
-up_to_bar (w ∷ ws) = cond (closes w) (Some 1) (option_map suc (up_to_bar ws))
+up_to_bar ws = option_map suc (position closes ws)
 
 -- how many words stand before the first that is a small number
 abbrev pub up_to_number : List (List ℕ) → Option ℕ
-up_to_number [] = None
-up_to_number (w ∷ ws) = cond (is_ok (small w)) (Some 0) (option_map suc (up_to_number ws))
+up_to_number ws = position (λ w. is_ok (small w)) ws
 
 -- how many words the name has. New: one, or where it begins but does not end with a bar, those up to the next that ends with one.
 -- Old: all before the first small number behind the first word

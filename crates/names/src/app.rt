@@ -1,5 +1,5 @@
 // The name of an application: a part of the line where nothing was joined, else of lent scratch memory.
-ghost use Rattle.std.specs.Prelude.{◌≡◌, ℕ, ◌+◌, ◌^◌, ◌<◌, ◌≤◌, List, ◌∷◌, ◌++◌, length, is_some, if◌then◌else◌, MatchOption};
+ghost use Rattle.std.specs.Prelude.{◌≡◌, ◌+◌, ◌^◌, ◌<◌, ◌∷◌, length, is_some, if◌then◌else◌, MatchOption};
 ghost use Rattle.std.specs.Option.{option_map};
 ghost use Rattle.words.specs.Words.{ahead, first_of, rest_of};
 ghost use Rattle.names.specs.AppNames.{NameFound, named, children, child_words, name_read, name_said, placed_in, scratch_after};
@@ -8,27 +8,48 @@ ghost use Rattle.names.specs.Writing.{laid_at, tail};
 use ids::is_id;
 use words::Words;
 
-// A name as it was read: its first word, and how many bytes it has where more words were joined to that.
+// A name as it was read: its first word, and how many bytes it has where more words were joined to that. A joined name itself is in
+// scratch memory, which is lent by a rule of the project, so only its length is here.
 #[derive(Clone, Copy)]
 pub struct AppName<'a> {
     pub first: &'a [u8],
     pub joined: Option<usize>,
 }
 
-// Writes `part` into `scratch` from `at` on, as far as it fits, and answers where it ends.
-fn put(scratch: &mut [u8], at: usize, part: &[u8]) -> usize
-    requires { at + length part.now < 2 ^ 64 }
-    ensures value { result ≡ at + length part.now }
-    ensures written { scratch.new ≡ laid_at at part.now scratch.old }
-{
-    let end = at + part.len();
-    let room = scratch.len();
-    if end <= room {
-        scratch[at..end].copy_from_slice(part);
-    } else if at < room {
-        scratch[at..room].copy_from_slice(&part[0..room - at]);
+impl<'a> AppName<'a> {
+    // The name itself, from the line or from the scratch memory that it was read with: none where that is too short for it.
+    pub fn text<'s>(&self, scratch: &'s [u8]) -> Option<&'s [u8]>
+    where
+        'a: 's,
+        ensures { option_map (λ x. x.now) result ≡ placed_in self.now.first.now self.now.joined scratch.now }
+    {
+        match self.joined {
+            None => Some(self.first),
+            Some(n) => scratch.get(..n),
+        }
     }
-    end
+}
+
+// A name written piece by piece into lent memory, as far as it fits: `end` is where it ends.
+#[derive(Drop)]
+struct Joiner<'s> {
+    scratch: &'s mut [u8],
+    end: usize,
+}
+
+impl<'s> Joiner<'s> {
+    // Writes `part` behind what is there.
+    fn put(&mut self, part: &[u8])
+        requires { self.old.end + length part.now < 2 ^ 64 }
+        ensures same { self.new.scratch.ghost_name ≡ self.old.scratch.ghost_name }
+        ensures end { self.new.end ≡ self.old.end + length part.now }
+        ensures written { self.new.scratch.now ≡ laid_at self.old.end part.now self.old.scratch.now }
+    {
+        let start = self.end.min(self.scratch.len());
+        let n = part.len().min(self.scratch.len() - start);
+        self.scratch[start..start + n].copy_from_slice(&part[..n]);
+        self.end += part.len();
+    }
 }
 
 // The next word of the name: none where the next word reads as an identifier, and at the end of the line.
@@ -40,29 +61,25 @@ fn next_of_name<'a>(words: &mut Words<'a>) -> Option<&'a [u8]>
     ensures number { words.new.number ≡ words.old.number + (if is_some result then 1 else 0) }
 {
     let mut look = *words;
-    let word = look.next()?;
-    if is_id(word) {
-        return None;
-    }
+    let word = look.next().filter(|word| !is_id(word))?;
     *words = look;
     Some(word)
 }
 
-// Writes the other words of the name, each after a space, and the bar, as far as they fit, and answers where they end.
-// `words` moves on to the first child.
-fn join_rest(words: &mut Words<'_>, scratch: &mut [u8], at: usize) -> usize
-    requires { at + length (tail (named (ahead words.old.left))) < 2 ^ 64 }
-    ensures value { result ≡ at + length (tail (named (ahead words.old.left))) }
-    ensures written { scratch.new ≡ laid_at at (tail (named (ahead words.old.left))) scratch.old }
+// Writes the other words of the name, each after a space, and the bar. `words` moves on to the first child.
+fn join_rest(words: &mut Words<'_>, out: &mut Joiner<'_>)
+    requires { out.old.end + length (tail (named (ahead words.old.left))) < 2 ^ 64 }
+    ensures same { out.new.scratch.ghost_name ≡ out.old.scratch.ghost_name }
+    ensures end { out.new.end ≡ out.old.end + length (tail (named (ahead words.old.left))) }
+    ensures written { out.new.scratch.now ≡ laid_at out.old.end (tail (named (ahead words.old.left))) out.old.scratch.now }
     ensures rest { ahead words.new.left ≡ children (ahead words.old.left) }
     ensures number { words.new.number + length (ahead words.new.left) ≡ words.old.number + length (ahead words.old.left) }
 {
-    let mut n = at;
     while let Some(word) = next_of_name(words) {
-        n = put(scratch, n, b" ");
-        n = put(scratch, n, word);
+        out.put(b" ");
+        out.put(word);
     }
-    put(scratch, n, b"|")
+    out.put(b"|");
 }
 
 // Reads the name of an application, whose first word comes next: none where there is no word. Where words are joined, the joined name
@@ -81,30 +98,14 @@ pub fn parse_app_name<'a>(words: &mut Words<'a>, scratch: &mut [u8]) -> Option<A
             joined: None,
         });
     };
-    let mut n = put(scratch, 0, b"|");
-    n = put(scratch, n, first);
-    n = put(scratch, n, b" ");
-    n = put(scratch, n, second);
-    let end = join_rest(words, scratch, n);
+    let mut name = Joiner { scratch, end: 0 };
+    name.put(b"|");
+    name.put(first);
+    name.put(b" ");
+    name.put(second);
+    join_rest(words, &mut name);
     Some(AppName {
         first,
-        joined: Some(end),
+        joined: Some(name.end),
     })
-}
-
-// The name itself, from the line or from the scratch memory that it was read with: none where that is too short for it. `first` and
-// `joined` are what `parse_app_name` told.
-pub fn name_text<'a>(first: &'a [u8], joined: Option<usize>, scratch: &'a [u8]) -> Option<&'a [u8]>
-    ensures { option_map (λ x. x.now) result ≡ placed_in first.now joined scratch.now }
-{
-    match joined {
-        None => Some(first),
-        Some(n) => {
-            if n <= scratch.len() {
-                Some(&scratch[0..n])
-            } else {
-                None
-            }
-        }
-    }
 }

@@ -1,8 +1,7 @@
 // Quantifiers that Z3 named itself, as `name!number`.
-ghost use Rattle.std.specs.Prelude.{◌≡◌, ◌≤◌, not, length};
-ghost use Rattle.std.specs.List.{prefix_len};
+ghost use Rattle.std.specs.Prelude.{◌≡◌};
 ghost use Rattle.words.specs.Joined.{joined_text};
-ghost use Rattle.names.specs.QuantKinds.{bang, kind_said, quant_kind};
+ghost use Rattle.names.specs.QuantKinds.{kind_said, quant_kind};
 
 use ids::parse_number;
 use words::{Bars, Joined};
@@ -14,43 +13,31 @@ pub enum QuantKindParse<'a> {
     Unnamed { name: Joined<'a>, id: u64 },
 }
 
-// How many bytes stand before the first `!`.
-fn bang_at(s: &[u8]) -> usize
-    ensures value { result ≡ prefix_len (λ b. not (bang b)) s.now }
-    ensures bound { result ≤ length s.now }
-{
-    for (i, b) in s.iter().enumerate() {
-        if *b == b'!' {
-            return i;
-        }
-    }
-    s.len()
-}
-
 impl<'a> QuantKindParse<'a> {
     // Splits a name at its `!` signs: where the second piece is a number below 2^64 the quantifier has the first piece and that number.
     pub fn parse(name: Joined<'a>) -> QuantKindParse<'a>
         ensures { kind_said result ≡ quant_kind (joined_text name.entry.bars name.entry.span.now) }
     {
         let span = name.span;
-        let first = bang_at(span);
-        if first == span.len() {
+        let Some(first) = span.iter().position(|b| *b == b'!') else {
             return QuantKindParse::Named(name);
-        }
+        };
         let rest = &span[first + 1..];
-        let second = bang_at(rest);
-        if second == rest.len() && name.bars == Bars::Both {
-            return QuantKindParse::Named(name);
-        }
-        match parse_number(&rest[0..second], u64::MAX) {
+        let number = match rest.iter().position(|b| *b == b'!') {
+            Some(second) => &rest[..second],
+            // the piece would end with the bar
+            None if name.bars == Bars::Both => return QuantKindParse::Named(name),
+            None => rest,
+        };
+        match parse_number(number, u64::MAX) {
             Err(_) => QuantKindParse::Named(name),
-            Ok(id) => {
-                let piece = Joined {
-                    span: &span[0..first],
+            Ok(id) => QuantKindParse::Unnamed {
+                name: Joined {
+                    span: &span[..first],
                     bars: name.bars.without_last(),
-                };
-                QuantKindParse::Unnamed { name: piece, id }
-            }
+                },
+                id,
+            },
         }
     }
 }

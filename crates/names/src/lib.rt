@@ -7,6 +7,6 @@ mod quant;
 #[cfg(test)]
 mod tests;
 
-pub use app::{AppName, name_text, parse_app_name};
+pub use app::{AppName, parse_app_name};
 pub use kind::QuantKindParse;
 pub use quant::{Qid, QidFault, parse_qid};

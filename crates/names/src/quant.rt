@@ -1,10 +1,13 @@
 // The name of a quantifier with its variable count.
-ghost use Rattle.std.specs.Prelude.{◌≡◌, ◌+◌, ◌^◌, ◌≤◌, not, ◌&&◌, length, IfSome, if◌then◌else◌, nat_lt};
+ghost use Rattle.std.specs.Prelude.{◌≡◌, ◌+◌, not, ◌&&◌, length, if◌then◌else◌, nat_lt, Some};
 ghost use Rattle.words.specs.declared.joined.Bars.TheVariants.{Bare, Both};
 ghost use Rattle.words.specs.Words.{ahead};
-ghost use Rattle.names.specs.QuantNames.{closes, left_after, name_words, opens, qid_answer, quant_read, up_to_bar, up_to_number};
+ghost use Rattle.names.specs.Messages.{qid_message};
+ghost use Rattle.names.specs.QuantNames.{left_after, name_words, qid_answer, quant_read};
 
 use ids::{NumberFault, parse_small};
+use std::error::Error;
+use std::fmt;
 use words::{Bars, Joined, Words};
 
 // A quantifier's name, as a span of the line, and how many variables it binds.
@@ -23,65 +26,33 @@ pub enum QidFault {
     Count(usize, NumberFault),
 }
 
-fn starts_with_bar(w: &[u8]) -> bool
-    ensures { result ≡ opens w.now }
-{
-    !w.is_empty() && w[0] == b'|'
-}
+impl fmt::Display for QidFault {
+    ghost output = { λ f. Some (qid_message f) };
 
-fn ends_with_bar(w: &[u8]) -> bool
-    ensures { result ≡ closes w.now }
-{
-    !w.is_empty() && w[w.len() - 1] == b'|'
-}
-
-// How many words there are up to and including the first that ends with a bar.
-fn up_to_bar(words: Words<'_>) -> Option<usize>
-    ensures value { result ≡ up_to_bar (ahead words.entry.left) }
-    ensures bound { IfSome result (λ k. k ≤ 2 ^ 63) }
-{
-    let mut cursor = words;
-    let mut n: usize = 0;
-    while let Some(word) = cursor.next() {
-        n += 1;
-        if ends_with_bar(word) {
-            return Some(n);
+    fn fmt<W: fmt::Write>(&self, f: &mut fmt::Formatter<W>) -> fmt::Result {
+        match self {
+            QidFault::Missing => write!(f, "no name with a count"),
+            QidFault::Count(word, fault) => write!(f, "word {word} is no count: it {fault}"),
         }
     }
-    None
 }
 
-// How many words stand before the first that is a small number.
-fn up_to_number(words: Words<'_>) -> Option<usize>
-    ensures value { result ≡ up_to_number (ahead words.entry.left) }
-    ensures bound { IfSome result (λ k. k ≤ 2 ^ 63) }
-{
-    let mut cursor = words;
-    let mut n: usize = 0;
-    while let Some(word) = cursor.next() {
-        if parse_small(word).is_ok() {
-            return Some(n);
-        }
-        n += 1;
-    }
-    None
-}
+impl Error for QidFault {}
 
 // How many words the name has, by the style of the trace's version: none where the line ends before it does.
-fn name_words(words: Words<'_>, new_style: bool) -> Option<usize>
+fn name_words(mut words: Words<'_>, new_style: bool) -> Option<usize>
     ensures { result ≡ name_words new_style (ahead words.entry.left) }
 {
-    let mut cursor = words;
-    let first = cursor.next()?;
-    if new_style && !(starts_with_bar(first) && !ends_with_bar(first)) {
-        return Some(1);
+    let first = words.next()?;
+    if !new_style {
+        let more = words.position(|w| parse_small(w).is_ok())?;
+        return Some(more + 1);
     }
-    let more = if new_style {
-        up_to_bar(cursor)?
-    } else {
-        up_to_number(cursor)?
-    };
-    Some(more + 1)
+    if first.starts_with(b"|") && !first.ends_with(b"|") {
+        let more = words.position(|w| w.ends_with(b"|"))?;
+        return Some(more + 2);
+    }
+    Some(1)
 }
 
 // An old name of several words gets a bar at both ends.
@@ -102,25 +73,15 @@ pub fn parse_qid<'a>(words: &mut Words<'a>, new_style: bool) -> Result<Qid<'a>, 
     ensures number { words.new.number + length (ahead words.new.left) ≡ words.old.number + length (ahead words.old.left) }
 {
     let mut cursor = *words;
-    let Some(count) = name_words(cursor, new_style) else {
-        return Err(QidFault::Missing);
-    };
-    let Some(span) = cursor.span(count) else {
-        return Err(QidFault::Missing);
-    };
+    let count = name_words(cursor, new_style).ok_or(QidFault::Missing)?;
+    let span = cursor.span(count).ok_or(QidFault::Missing)?;
     let place = cursor.number();
-    let Some(count_word) = cursor.next() else {
-        return Err(QidFault::Missing);
-    };
-    match parse_small(count_word) {
-        Err(fault) => Err(QidFault::Count(place, fault)),
-        Ok(num_vars) => {
-            let bars = bars_around(new_style, count);
-            *words = cursor;
-            Ok(Qid {
-                name: Joined { span, bars },
-                num_vars,
-            })
-        }
-    }
+    let word = cursor.next().ok_or(QidFault::Missing)?;
+    let num_vars = parse_small(word).map_err(|fault| QidFault::Count(place, fault))?;
+    *words = cursor;
+    let bars = bars_around(new_style, count);
+    Ok(Qid {
+        name: Joined { span, bars },
+        num_vars,
+    })
 }

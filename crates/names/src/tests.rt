@@ -1,5 +1,6 @@
 use super::*;
 use ids::NumberFault;
+use std::test::Fail;
 use words::{Bars, Joined, Words};
 
 // A cursor before word 2.
@@ -10,11 +11,8 @@ fn at_name(line: &[u8]) -> Words<'_> {
     words
 }
 
-fn has_text(first: &[u8], joined: Option<usize>, scratch: &[u8], expected: &[u8]) -> bool {
-    match name_text(first, joined, scratch) {
-        Some(text) => text == expected,
-        None => false,
-    }
+fn has_text(name: AppName<'_>, scratch: &[u8], expected: &[u8]) -> bool {
+    name.text(scratch).is_some_and(|text| text == expected)
 }
 
 // Whether the application on the line is so named, with so many child words.
@@ -24,7 +22,7 @@ fn app(line: &[u8], expected: &[u8], children: usize) -> bool {
     let Some(name) = parse_app_name(&mut words, &mut scratch) else {
         return false;
     };
-    let named = has_text(name.first, name.joined, &scratch, expected);
+    let named = has_text(name, &scratch, expected);
     named && words.total() == words.number().saturating_add(children)
 }
 
@@ -41,10 +39,7 @@ fn applications(rt: HostRuntime) {
 // What is told of a joined name, where scratch is too short for it.
 fn cut_short(scratch: &mut [u8]) -> Option<usize> {
     let mut words = at_name(b"[mk-app] #5 foo bar #1");
-    match parse_app_name(&mut words, scratch) {
-        Some(name) => name.joined,
-        None => None,
-    }
+    parse_app_name(&mut words, scratch)?.joined
 }
 
 #[test]
@@ -53,27 +48,24 @@ fn short_scratch(rt: HostRuntime) {
     let told = cut_short(&mut scratch);
     assert_eq!(rt; told, Some(9));
     assert!(rt; scratch == *b"|foo b");
-    assert!(rt; !has_text(b"foo", told, &scratch, b"|foo b"));
+    let name = AppName {
+        first: b"foo",
+        joined: told,
+    };
+    assert!(rt; !has_text(name, &scratch, b"|foo b"));
 }
 
 // Whether the line has this name and count, in this style.
 fn quant(line: &[u8], new_style: bool, span: &[u8], bars: Bars, count: u32) -> bool {
     let mut words = at_name(line);
-    match parse_qid(&mut words, new_style) {
-        Err(_) => false,
-        Ok(qid) => {
-            let name = qid.name;
-            name.span == span && name.bars == bars && qid.num_vars == count
-        }
-    }
+    parse_qid(&mut words, new_style).is_ok_and(|qid| qid.name.span == span
+        && qid.name.bars == bars
+        && qid.num_vars == count)
 }
 
 fn quant_fault(line: &[u8], new_style: bool) -> Option<QidFault> {
     let mut words = at_name(line);
-    match parse_qid(&mut words, new_style) {
-        Err(fault) => Some(fault),
-        Ok(_) => None,
-    }
+    parse_qid(&mut words, new_style).err()
 }
 
 #[test]
@@ -92,6 +84,20 @@ fn quantifiers(rt: HostRuntime) {
         quant_fault(b"[mk-quant] #9 a b", false),
         Some(QidFault::Missing)
     );
+}
+
+#[test]
+fn faults_are_told(rt: HostRuntime) -> Result<(), Fail> {
+    let fault = QidFault::Count(3, NumberFault::NotDigit(0));
+    let text = format!(in rt.alloc(); "{fault}")?;
+    assert_eq!(rt;
+        text.as_str(),
+        "word 3 is no count: it has a byte that is no digit at place 0"
+    );
+    let missing = QidFault::Missing;
+    let text = format!(in rt.alloc(); "{missing}")?;
+    assert_eq!(rt; text.as_str(), "no name with a count");
+    Ok(())
 }
 
 // Whether the name has this first piece and number.

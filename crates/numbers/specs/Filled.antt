@@ -1,5 +1,5 @@
 -- What a table means after a list of entries. Assumes nothing.
-use Rattle.std.specs.Prelude.{ℕ, Bool, cond, List, [], ◌∷◌}
+use Rattle.std.specs.Prelude.{ℕ, Bool, cond, List, fold}
 use Rattle.keyed.specs.Meaning.{Names, kept, put}
 use Rattle.keyed.specs.Slots.{table_room}
 
@@ -10,5 +10,4 @@ module _ {K V : Type 0} (alike : K → K → Bool) (slots : ℕ) where
 
   -- each in turn
   abbrev pub entered_all : Names K V → List (K × V) → Names K V
-  entered_all m [] = m
-  entered_all m (e ∷ es) = entered_all (entered m e) es
+  entered_all m es = fold entered m es

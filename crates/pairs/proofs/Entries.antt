@@ -1,17 +1,15 @@
 -- The entries of a list, one by one. Assumes nothing.
-use Rattle.std.proofs.Common.{◌≡◌, ℕ, zero, suc, ◌+◌, ◌-◌, ◌<◌, true, false, List, [], ◌∷◌, length, drop, is_some, Some, None, Ok, Err, Option, Result, sym, refl, ap, ◌∙◌, add-zero, zero-add, arith, Bor}
+use Rattle.std.proofs.Common.{◌≡◌, ℕ, zero, suc, ◌+◌, ◌-◌, ◌<◌, true, false, List, [], ◌∷◌, length, drop, is_some, Some, None, Ok, Err, Option, Result, refl, arith, Bor}
 use Rattle.std.specs.Option as options
 use Rattle.std.specs.Result.{result_map_both}
 use Rattle.words.specs.Words.{ahead}
 use Rattle.words.proofs.Cut.{words_count}
 use Rattle.pairs.specs.declared.types.Form.{Form}
-use Rattle.pairs.specs.declared.types.Form.TheVariants.{OneWord, TwoWords, Apart}
 use Rattle.pairs.specs.declared.types.NameForm.{NameForm}
 use Rattle.pairs.specs.declared.types.PairRefusal.{PairRefusal}
 use Rattle.pairs.specs.Forms.{words_in}
-use Rattle.pairs.specs.Pairs.{PairModel, read_pair}
 use Rattle.pairs.specs.declared.types.NamesText.{NamesText}
-use Rattle.pairs.specs.Names.{NamesModel, entry_read, entries_read, onto, list_kind, listed, of_first, names_read, names_said}
+use Rattle.pairs.specs.Names.{NamesModel, entry_read, entries_read, onto, names_said}
 
 abbrev Pairs : Type 0
 Pairs = List (List ℕ × List ℕ)
@@ -19,35 +17,26 @@ Pairs = List (List ℕ × List ℕ)
 -- ---- what a cursor has left
 
 pub some_ahead : (o l : Option (Bor (List ℕ))) → options.option_map (λ x. x.now) o ≡ options.option_map (λ x. x.now) l → is_some o ≡ true → 0 < length (ahead l)
+some_ahead o None e h = grind arith
 some_ahead o (Some r) e h = (words_count r.now).0
-some_ahead None None e h = let z : ◌≡◌ {A = ℕ} 0 1 = cc in absurd (omega arith)
-some_ahead (Some r) None e h = let z : ◌≡◌ {A = ℕ} 0 1 = cc in absurd (omega arith)
 
 pub none_ahead : (o l : Option (Bor (List ℕ))) → options.option_map (λ x. x.now) o ≡ options.option_map (λ x. x.now) l → is_some o ≡ false → ahead l ≡ []
 none_ahead o None e h = refl
-none_ahead None (Some r) e h = let z : ◌≡◌ {A = ℕ} 0 1 = cc in absurd (omega arith)
-none_ahead (Some s) (Some r) e h = let z : ◌≡◌ {A = ℕ} 0 1 = cc in absurd (omega arith)
+none_ahead o (Some r) e h = grind arith
 
 pub words_some : (f : Form) → 0 < words_in f
-words_some OneWord = omega arith
-words_some TwoWords = omega arith
-words_some Apart = omega arith
+words_some f = grind arith
 
 -- ---- one entry more
 
 skipped : (f : Form) (n : NameForm) (from k : ℕ) (ws : List (List ℕ)) → entries_read f n from k ws ≡ entries_read f n (from + k) 0 (drop k ws)
-skipped f n from zero ws = ap (λ i. entries_read f n i 0 ws) (sym (add-zero from))
+skipped f n from zero ws = grind arith
 skipped f n from (suc k) [] = refl
-skipped f n from (suc k) (w ∷ ws) = skipped f n (from + 1) k ws ∙ ap (λ i. entries_read f n i 0 (drop k ws)) (let e : (from + 1) + k ≡ from + suc k = omega arith in e)
-
-behind : (f : Form) (n : NameForm) (from : ℕ) (w : List ℕ) (ws : List (List ℕ)) → entries_read f n (from + 1) (words_in f - 1) ws ≡ entries_read f n (from + words_in f) 0 (drop (words_in f) (w ∷ ws))
-behind OneWord n from w ws = refl
-behind TwoWords n from w ws = skipped TwoWords n (from + 1) 1 ws ∙ ap (λ i. entries_read TwoWords n i 0 (drop 1 ws)) (let e : (from + 1) + 1 ≡ from + 2 = omega arith in e)
-behind Apart n from w ws = skipped Apart n (from + 1) 2 ws ∙ ap (λ i. entries_read Apart n i 0 (drop 2 ws)) (let e : (from + 1) + 2 ≡ from + 3 = omega arith in e)
+skipped f n from (suc k) (w ∷ ws) = grind (arith, skipped f n (from + 1) k ws)
 
 pub entries_more : (f : Form) (n : NameForm) (from : ℕ) (ws : List (List ℕ)) → 0 < length ws → entries_read f n from 0 ws ≡ onto (entry_read f n from ws) (entries_read f n (from + words_in f) 0 (drop (words_in f) ws))
 entries_more f n from [] h = absurd (omega arith)
-entries_more f n from (w ∷ ws) h = ap (onto (entry_read f n from (w ∷ ws))) (behind f n from w ws)
+entries_more f n from (w ∷ ws) h = grind (arith, skipped f n (from + 1) (words_in f - 1) ws)
 
 -- ---- the entries counted
 
@@ -55,20 +44,9 @@ entries_more f n from (w ∷ ws) h = ap (onto (entry_read f n from (w ∷ ws))) 
 abbrev pub counted : ℕ → Result Pairs PairRefusal → Result ℕ PairRefusal
 counted k r = result_map_both (λ ps. k + length ps) (λ e. e) r
 
-counted-onto : (k : ℕ) (p : List ℕ × List ℕ) (r : Result Pairs PairRefusal) → counted k (onto (Ok p) r) ≡ counted (k + 1) r
-counted-onto k p (Err e) = refl
-counted-onto k p (Ok ps) = ap Ok (let e : k + suc (length ps) ≡ (k + 1) + length ps = omega arith in e)
-
-module _ (f : Form) (n : NameForm) (from k : ℕ) (ws : List (List ℕ)) (all : Result ℕ PairRefusal) (inv : counted k (entries_read f n from 0 ws) ≡ all) where
-  pub count_more : (p : List ℕ × List ℕ) (to : ℕ) (vs : List (List ℕ)) → 0 < length ws → Ok p ≡ entry_read f n from ws → to ≡ from + words_in f → vs ≡ drop (words_in f) ws → counted (k + 1) (entries_read f n to 0 vs) ≡ all
-  count_more p to vs h e m d =
-      sym (ap (counted k) (entries_more f n from ws h ∙ ap (λ r. onto r (entries_read f n (from + words_in f) 0 (drop (words_in f) ws))) (sym e)) ∙ counted-onto k p (entries_read f n (from + words_in f) 0 (drop (words_in f) ws)) ∙ ap (λ i. counted (k + 1) (entries_read f n i 0 (drop (words_in f) ws))) (sym m) ∙ ap (λ l. counted (k + 1) (entries_read f n to 0 l)) (sym d)) ∙ inv
-
-  pub count_stop : (e : PairRefusal) → 0 < length ws → Err e ≡ entry_read f n from ws → Err e ≡ all
-  count_stop e h s = sym (ap (counted k) (entries_more f n from ws h ∙ ap (λ r. onto r (entries_read f n (from + words_in f) 0 (drop (words_in f) ws))) (sym s))) ∙ inv
-
-  pub count_all : ws ≡ [] → Ok k ≡ all
-  count_all e = sym (ap (λ l. counted k (entries_read f n from 0 l)) e ∙ ap Ok (add-zero k)) ∙ inv
+pub counted_onto : (k : ℕ) (p : List ℕ × List ℕ) (r : Result Pairs PairRefusal) → counted k (onto (Ok p) r) ≡ counted (k + 1) r
+counted_onto k p (Err e) = refl
+counted_onto k p (Ok ps) = grind arith
 
 -- ---- the whole list
 
@@ -78,20 +56,9 @@ names_text n k = record { form = n; pairs = k }
 abbrev names : Result NamesModel PairRefusal → Result NamesText PairRefusal
 names r = result_map_both names_said (λ e. e) r
 
-names_counted : (n : NameForm) (r : Result Pairs PairRefusal) → result_map_both (names_text n) (λ e. e) (counted 0 r) ≡ names (result_map_both (λ ps. record { sort = n; entries = ps }) (λ e. e) r)
+pub names_counted : (n : NameForm) (r : Result Pairs PairRefusal) → result_map_both (names_text n) (λ e. e) (counted 0 r) ≡ names (result_map_both (λ ps. record { sort = n; entries = ps }) (λ e. e) r)
 names_counted n (Err e) = refl
-names_counted n (Ok ps) = ap (λ k. Ok (names_text n k)) (zero-add (length ps))
+names_counted n (Ok ps) = grind arith
 
-module _ (from : ℕ) (ws : List (List ℕ)) where
-  pub first_refused : (e : PairRefusal) → Err e ≡ read_pair None true from ws → Err e ≡ names (names_read from ws)
-  first_refused e h = ap (λ r. names (of_first from ws r)) h
-
-  module _ (p : PairModel) (n : NameForm) (read : Ok p ≡ read_pair None true from ws) (sort : n ≡ list_kind p.texts.0) where
-    by_count : result_map_both (names_text n) (λ e. e) (counted 0 (entries_read p.shape n from 0 ws)) ≡ names (names_read from ws)
-    by_count = names_counted n (entries_read p.shape n from 0 ws) ∙ ap (λ k. names (listed p.shape k from ws)) sort ∙ ap (λ r. names (of_first from ws r)) read
-
-    pub names_told : (k : ℕ) → Ok k ≡ counted 0 (entries_read p.shape n from 0 ws) → Ok (names_text n k) ≡ names (names_read from ws)
-    names_told k h = ap (result_map_both (names_text n) (λ e. e)) h ∙ by_count
-
-    pub names_refused : (e : PairRefusal) → Err e ≡ counted 0 (entries_read p.shape n from 0 ws) → Err e ≡ names (names_read from ws)
-    names_refused e h = ap (result_map_both (names_text n) (λ e. e)) h ∙ by_count
+-- what a reader of a list goes by
+pub ruleset list_steps = (some_ahead, none_ahead, words_some, entries_more, counted_onto, names_counted)

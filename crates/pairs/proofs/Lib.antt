@@ -1,5 +1,4 @@
 pub mod Ends
 pub mod Pieces
-pub mod Stages
 pub mod Entries
 pub mod Written

@@ -1,23 +1,23 @@
 -- The first two pieces of a text. Assumes nothing.
-use Rattle.std.proofs.Common.{◌≡◌, ℕ, ◌+◌, ◌<◌, ◌≤◌, Bool, List, [], ◌∷◌, length, take, drop, Some, None, sym, ap, ◌∙◌, ⊎_elim, arith}
-use Rattle.std.proofs.lemmas.List.{take_all}
-use Rattle.std.proofs.lemmas.Bool.{cases_eq}
-use Rattle.words.specs.Words.{split_by}
-use Rattle.words.proofs.Cut.{before, taken, taken_last}
+use Rattle.std.proofs.Common.{◌≡◌, List, ℕ, Bool, false, [], ◌∷◌, Some, None, Option, Bor, refl}
+use Rattle.std.specs.Fn.{CalledAt}
+use Rattle.std.specs.Iterator.Runs.{Run, EachRunFrom}
+use Rattle.std.specs.List.{slice_split}
+use Rattle.std.specs.Option.{option_map}
+use Rattle.std.specs.declared.slice.Split.{Split}
+use Rattle.std.specs.Slice.Iter.{split_steps, split_rest, split_done, split_callee}
+use Rattle.std.proofs.lemmas.Iterator.{YieldsList}
+use Rattle.std.proofs.lemmas.Iterator.Splits.{YieldsList-from_slice_split}
 use Rattle.pairs.specs.Texts.{two_of}
+use denote.Param.Members.{Mut}
 
--- the first piece of a text r whose first sign stands at j, or that has none and is j long
-first_piece : (p : ℕ → Bool) (r : List ℕ) (j : ℕ) → j ≡ before p r → j ≤ length r → (ts : List (List ℕ)) × (split_by p r ≡ take j r ∷ ts)
-first_piece p r j e h = ⊎_elim
-    (λ end. ([], taken_last p r j e end ∙ ap (λ w. w ∷ []) (sym (take_all j r (omega arith)))))
-    (λ more. (split_by p (drop (j + 1) r), taken p r j e (omega arith)))
-    (cases_eq j (length r))
+two_given : {S : Type 0} {steps : S → Option (Bor (List ℕ)) → S → Type 0} (s t u : S) (all : List (List ℕ)) (x : Bor (List ℕ)) (r : Option (Bor (List ℕ))) → YieldsList steps (λ y. y.now) s all → steps s (Some x) t → steps t r u → option_map (λ y. (x.now, y.now)) r ≡ two_of all
+two_given s t u [] x r road a b = absurd (road.runs x t a)
+two_given s t u (p ∷ []) x None road a b = refl
+two_given s t u (p ∷ []) x (Some y) road a b = absurd ((road.runs.1 x t a).1 y u b)
+two_given s t u (p ∷ q ∷ ts) x None road a b = absurd ((road.runs.1 x t a).1.0 u b)
+two_given s t u (p ∷ q ∷ ts) x (Some y) road a b = let e = (road.runs.1 x t a).0 in let f = ((road.runs.1 x t a).1.1 y u b).0 in cc
 
--- what a reader knows that found the first sign at i, and the second or the end at place j behind it
-pub two_told : (p : ℕ → Bool) (s r : List ℕ) (i j : ℕ) → i ≡ before p s → i < length s → r ≡ drop (i + 1) s → j ≡ before p r → j ≤ length r → Some (take i s, take j r) ≡ two_of (split_by p s)
-two_told p s r i j e h er f l =
-    let second = first_piece p r j f l in
-    sym (ap two_of (taken p s i e h ∙ ap (λ x. take i s ∷ split_by p x) (sym er) ∙ ap (λ ts. take i s ∷ ts) second.1))
-
-pub two_none : (p : ℕ → Bool) (s : List ℕ) (i : ℕ) → i ≡ before p s → i ≡ length s → None ≡ two_of (split_by p s)
-two_none p s i e h = sym (ap two_of (taken_last p s i e h))
+-- what two calls of `next` give of a text that is split at a test, where the first gives x
+pub two_of_split : {F : Type 0} {g : Mut F (Bor ℕ × Unit {0}) Bool} (p : ℕ → Bool) (s t u : Split ℕ F) (xs : List ℕ) (x : Bor (List ℕ)) (r : Option (Bor (List ℕ))) {P : Run (split_steps g) → Type 0} → EachRunFrom (split_steps g) s P → split_rest s ≡ xs → split_done s ≡ false → ((y : ℕ) (b : Bool) (q : F) → CalledAt g (split_callee s) y b q → (q ≡ split_callee s) × (b ≡ p y)) → split_steps g s (Some x) t → split_steps g t r u → option_map (λ y. (x.now, y.now)) r ≡ two_of (slice_split p xs)
+two_of_split {g = g} p s t u xs x r runs rest done test a b = two_given s t u (slice_split p xs) x r (YieldsList-from_slice_split g p xs rest done refl test) a b

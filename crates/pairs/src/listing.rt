@@ -35,14 +35,12 @@ fn next_entry<'a>(
 {
     let word = words.number();
     let pair = read_pair(words, Some(form), true)?;
-    match sort_pair(kind, pair.parts) {
-        Ok(parts) => Ok(parts),
-        Err(fault) => Err(PairRefusal { fault, word }),
-    }
+    sort_pair(kind, pair.parts).map_err(|fault| fault.at(word))
 }
 
 // Reads all the pairs that are left on a line, which must be written in one form, and tells how many there are. The first pair says
 // whether they are types or names and types.
+#[tactic(auto, using(crate::proofs::Written::lists_back, crate::proofs::Entries::list_steps))]
 pub fn check_var_names(words: Words<'_>) -> Result<NamesText, PairRefusal>
     ensures value { result ≡ result_map_both names_said (λ e. e) (names_read words.entry.number (ahead words.entry.left)) }
     ensures back { ListsBack }
@@ -52,6 +50,7 @@ pub fn check_var_names(words: Words<'_>) -> Result<NamesText, PairRefusal>
     let form = list_kind(first.parts.0);
     let mut cursor = words;
     let mut pairs: usize = 0;
+    // A loop: a pair takes one to three words and the first fault ends it, so no iterator of words serves.
     while cursor.rest_of_line().is_some() {
         let _entry = next_entry(&mut cursor, first.form, form)?;
         pairs += 1;

@@ -1,58 +1,32 @@
 // One pair, read from the words of a line.
-ghost use Rattle.std.specs.Prelude.{◌≡◌, ◌+◌, ◌&&◌, drop, OnSome};
+ghost use Rattle.std.specs.Prelude.{◌≡◌, ◌+◌, drop, length, OnSome};
 ghost use Rattle.std.specs.Option.{option_map};
-ghost use Rattle.std.specs.Str.{bytes_eq};
+ghost use Rattle.std.specs.Result.{result_map_both};
 ghost use Rattle.words.specs.Words.{ahead};
-ghost use Rattle.pairs.specs.Forms.{differs, words_in};
+ghost use Rattle.pairs.specs.Forms.{words_in};
 ghost use Rattle.pairs.specs.Texts.{parts_said};
 ghost use Rattle.pairs.specs.Law.{PairsBack};
-ghost use Rattle.pairs.specs.Pairs.{form_ahead, missing_at, pair_answer, read_pair, parts_ahead, taken_by};
+ghost use Rattle.pairs.specs.Pairs.{told, form_ahead, missing_at, pair_answer, read_pair, parts_ahead, taken_by};
 
-use super::strip::{two_pieces, without_brackets, without_end};
+use super::strip::{two_pieces, without_brackets};
 use super::types::{Form, Pair, PairFault, PairRefusal};
 use words::Words;
 
-fn is_text(word: &[u8], text: &[u8]) -> bool
-    ensures { result ≡ bytes_eq word.now text.now }
+// The form of the pair that comes next, which its first two words tell. A fault is told of the word that is missing.
+#[tactic(auto, using(crate::proofs::Ends::closes_by))]
+fn form_ahead(mut words: Words<'_>) -> Result<Form, PairRefusal>
+    ensures { result ≡ result_map_both (λ g. g) (λ e. told e (words.entry.number + length (ahead words.entry.left)))
+        (form_ahead (ahead words.entry.left)) }
 {
-    word == text
-}
-
-// The form of the pair that comes next, which its first two words tell.
-fn form_ahead(words: Words<'_>) -> Result<Form, PairFault>
-    ensures { result ≡ form_ahead (ahead words.entry.left) }
-{
-    let mut cursor = words;
-    let Some(first) = cursor.next() else {
-        return Err(PairFault::NoPair);
-    };
-    if without_end(first, b')').is_some() {
+    let first = words.next().ok_or(PairFault::NoPair.at(words.number()))?;
+    if first.ends_with(b")") {
         return Ok(Form::OneWord);
     }
-    let Some(second) = cursor.next() else {
-        return Err(PairFault::Missing);
-    };
-    if is_text(second, b";") {
+    let second = words.next().ok_or(PairFault::Missing.at(words.number()))?;
+    if second == b";".as_slice() {
         return Ok(Form::Apart);
     }
     Ok(Form::TwoWords)
-}
-
-// Whether a pair is written otherwise than the first one, whose form may not be known yet.
-fn is_other(form: Option<Form>, found: Form) -> bool
-    ensures { result ≡ differs form found }
-{
-    match form {
-        None => false,
-        Some(first) => first != found,
-    }
-}
-
-// Whether a pair is refused for its form.
-fn is_unequal(form: Option<Form>, forms_equal: bool, found: Form) -> bool
-    ensures { result ≡ (forms_equal && differs form found) }
-{
-    forms_equal && is_other(form, found)
 }
 
 // The two parts of the pair that comes next, brackets included: none where a piece or a word is missing.
@@ -64,14 +38,10 @@ fn parts_ahead<'a>(words: &mut Words<'a>, found: Form) -> Option<(&'a [u8], &'a 
     let first = words.next()?;
     match found {
         Form::OneWord => two_pieces(first),
-        Form::TwoWords => {
-            let second = words.next()?;
-            Some((first, second))
-        }
+        Form::TwoWords => Some((first, words.next()?)),
         Form::Apart => {
             let _middle = words.next()?;
-            let second = words.next()?;
-            Some((first, second))
+            Some((first, words.next()?))
         }
     }
 }
@@ -87,7 +57,9 @@ fn missing_at(words: &Words<'_>, found: Form) -> usize
 }
 
 // Reads the pair that comes next, and takes off its brackets. `form` is the form of the first pair, where that is known; with
-// `forms_equal` this pair must have it too. `words` moves behind the pair, and stays where there is a fault.
+// `forms_equal` this pair must have it too: a yes or no of its own, by a rule of the project. `words` moves behind the pair, and stays where
+// there is a fault.
+#[tactic(auto, using(crate::proofs::Written::pairs_back))]
 pub fn read_pair<'a>(
     words: &mut Words<'a>,
     form: Option<Form>,
@@ -99,27 +71,16 @@ pub fn read_pair<'a>(
     ensures back { PairsBack }
 {
     let word = words.number();
-    let found = match form_ahead(*words) {
-        Ok(found) => found,
-        Err(fault) => {
-            let word = words.total();
-            return Err(PairRefusal { fault, word });
-        }
-    };
-    if is_unequal(form, forms_equal, found) {
-        let fault = PairFault::TwoForms;
-        return Err(PairRefusal { fault, word });
+    let found = form_ahead(*words)?;
+    if forms_equal && form.is_some_and(|first| first != found) {
+        return Err(PairFault::TwoForms.at(word));
     }
     let mut cursor = *words;
-    let Some((first, second)) = parts_ahead(&mut cursor, found) else {
-        let fault = PairFault::Missing;
-        let word = missing_at(words, found);
-        return Err(PairRefusal { fault, word });
+    // An `else`, so that the words of the line are counted only where a part is missing.
+    let Some(parts) = parts_ahead(&mut cursor, found) else {
+        return Err(PairFault::Missing.at(missing_at(words, found)));
     };
-    let Some(parts) = without_brackets(first, second) else {
-        let fault = PairFault::Bracket;
-        return Err(PairRefusal { fault, word });
-    };
+    let parts = without_brackets(parts).ok_or(PairFault::Bracket.at(word))?;
     *words = cursor;
     Ok(Pair { parts, form: found })
 }

@@ -15,15 +15,14 @@ pub fn sort_pair<'a>(
 ) -> Result<(&'a [u8], &'a [u8]), PairFault>
     ensures { result_map_both parts_said (λ e. e) result ≡ sorted kind (parts_said parts.entry) }
 {
-    let (first, second) = parts;
     match kind {
         NameForm::TypeOnly => {
-            if first.is_empty() {
-                Ok((first, second))
+            if parts.0.is_empty() {
+                Ok(parts)
             } else {
                 Err(PairFault::TypesThenName)
             }
         }
-        NameForm::NameAndType => both_without_bars(first, second).ok_or(PairFault::BarMissing),
+        NameForm::NameAndType => both_without_bars(parts).ok_or(PairFault::BarMissing),
     }
 }

@@ -63,7 +63,7 @@ fn types_and_names_are_kept_apart(rt: HostRuntime) {
     assert!(rt; refused(b"x #5 (;T) (|a|;T)", PairFault::TypesThenName, 3));
     assert!(rt; refused(b"x #5 (|a|;|T|) (;T)", PairFault::BarMissing, 3));
     assert!(rt; refused(b"x #5 (|;|T|)", PairFault::BarMissing, 2));
-    assert_eq!(rt; PairFault::BarMissing.number(), 18);
+    assert_eq!(rt; u8::from(PairFault::BarMissing), 18);
 }
 
 #[test]

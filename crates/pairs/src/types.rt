@@ -1,6 +1,7 @@
 // What a reader of pairs tells.
 ghost use Rattle.std.specs.Prelude.{◌≡◌};
 ghost use Rattle.pairs.specs.Forms.{number_of};
+ghost use Rattle.pairs.specs.Pairs.{told};
 
 // How a pair is written: `(a;b)`, `(a b)` or `(a ; b)`.
 #[derive(Clone, Copy, PartialEq, Eq, Debug)]
@@ -34,11 +35,21 @@ pub enum PairFault {
     BarMissing = 18,
 }
 
+// The number by which a refusal is known.
+impl From<PairFault> for u8 {
+    ghost from_gives = { λ f n. n ≡ number_of f };
+
+    fn from(fault: PairFault) -> u8 {
+        fault as u8
+    }
+}
+
 impl PairFault {
-    pub fn number(self) -> u8
-        ensures { result ≡ number_of self }
+    // The refusal that tells this fault of a word.
+    pub(super) fn at(self, word: usize) -> PairRefusal
+        ensures { result ≡ told self word }
     {
-        self as u8
+        PairRefusal { fault: self, word }
     }
 }
 

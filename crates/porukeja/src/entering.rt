@@ -1,17 +1,17 @@
 // The command `index`: identifiers are entered and found by commands from standard input, over a front over a table.
-use crate::failed::Failed;
+use crate::failure::Failure;
+use crate::input;
 use crate::options::IndexOptions;
-use crate::output::Output;
-use crate::{failed, input};
 use front::front::{Front, LOW};
 use idents::ident::Ident;
 use ids::{IdText, parse_id, parse_number};
 use index::map::TermIdToIdxMap;
 use index::table::term_table;
-use keyed::slot::Slot;
 use lines::{LineMode, Lines};
 use std::alloc::{AllocError, Global};
-use std::io;
+use std::collections::BTreeMap;
+use std::io::{BufWriter, Write};
+use std::{fmt, io};
 use words::Words;
 
 // What a line of standard input asks for.
@@ -22,200 +22,191 @@ enum Asked {
     Room,
 }
 
-// The namespaces seen so far; a namespace's number is its place.
-#[derive(Drop)]
-struct Namespaces {
-    texts: Vec<Vec<u8>>,
+// Why a line of standard input was not read.
+#[derive(Clone, Copy, PartialEq, Eq, Debug)]
+enum CommandFault {
+    NoCommand,
+    UnknownCommand,
+    TooManyWords,
+    NoNumber,
+    BadNumber,
+    NoId,
+    BadId,
 }
 
-impl Namespaces {
-    // The number of a namespace, or the one that it would get.
-    fn number(&self, text: &[u8]) -> usize {
-        for (i, held) in self.texts.iter().enumerate() {
-            if held.as_slice() == text {
-                return i;
-            }
-        }
-        self.texts.len()
+impl fmt::Display for CommandFault {
+    fn fmt<W: fmt::Write>(&self, f: &mut fmt::Formatter<W>) -> fmt::Result {
+        f.write_str(match self {
+            CommandFault::NoCommand => "no command",
+            CommandFault::UnknownCommand => "unknown command",
+            CommandFault::TooManyWords => "too many words",
+            CommandFault::NoNumber => "no record number",
+            CommandFault::BadNumber => "the record number can't be read",
+            CommandFault::NoId => "no identifier",
+            CommandFault::BadId => "the identifier can't be read",
+        })
     }
+}
 
-    fn keep(&mut self, heap: Global, text: &[u8]) -> Result<(), AllocError> {
-        if self.number(text) == self.texts.len() {
-            self.texts.push(Vec::from_slice(heap, text)?)?;
+// What came of a command.
+#[derive(Clone, Copy)]
+enum Answer {
+    // a number was found, or nothing
+    Found(Option<u32>),
+    HasRoom(bool),
+    // in place of an earlier number, where there was one
+    Taken(Option<u32>),
+    NoRoom,
+    TooManyNamespaces,
+}
+
+impl fmt::Display for Answer {
+    fn fmt<W: fmt::Write>(&self, f: &mut fmt::Formatter<W>) -> fmt::Result {
+        match self {
+            Answer::Found(None) => f.write_str("none"),
+            Answer::Found(Some(number)) => write!(f, "{number}"),
+            Answer::HasRoom(true) => f.write_str("yes"),
+            Answer::HasRoom(false) => f.write_str("no"),
+            Answer::Taken(None) => f.write_str("taken"),
+            Answer::Taken(Some(old)) => write!(f, "taken in place of {old}"),
+            Answer::NoRoom => f.write_str("refused: no room"),
+            Answer::TooManyNamespaces => f.write_str("refused: too many namespaces"),
         }
-        Ok(())
     }
+}
 
-    // The identifier by numbers; none where a number does not fit.
+fn enter_number(word: Option<&[u8]>) -> Result<u32, CommandFault> {
+    let word = word.ok_or(CommandFault::NoNumber)?;
+    let number = parse_number(word, u64::from(u32::MAX)).map_err(|_| CommandFault::BadNumber)?;
+    u32::try_from(number).map_err(|_| CommandFault::BadNumber)
+}
+
+// What a command asks for, by its first word and the one behind the identifier.
+fn read_asked(command: &[u8], number: Option<&[u8]>) -> Result<Asked, CommandFault> {
+    match (command, number) {
+        (b"enter", number) => Ok(Asked::Enter(enter_number(number)?)),
+        (_, Some(_)) => Err(CommandFault::TooManyWords),
+        (b"find", None) => Ok(Asked::Find),
+        (b"room", None) => Ok(Asked::Room),
+        _ => Err(CommandFault::UnknownCommand),
+    }
+}
+
+fn read_command(line: &[u8]) -> Result<(Asked, IdText<'_>), CommandFault> {
+    let mut words = Words::of(line);
+    let command = words.next().ok_or(CommandFault::NoCommand)?;
+    let id = words.next();
+    let number = words.next();
+    if words.next().is_some() {
+        return Err(CommandFault::TooManyWords);
+    }
+    let asked = read_asked(command, number)?;
+    let id = parse_id(id.ok_or(CommandFault::NoId)?).map_err(|_| CommandFault::BadId)?;
+    Ok((asked, id))
+}
+
+// An index, and the numbers of the namespaces of the identifiers in it.
+#[derive(Drop)]
+struct Session<I> {
+    index: I,
+    namespaces: BTreeMap<Vec<u8>, usize>,
+    heap: Global,
+}
+
+impl<I: TermIdToIdxMap> Session<I> {
+    // The identifier by numbers, a new namespace by the number that it would get; none where a number does not fit.
     fn ident(&self, id: IdText<'_>) -> Option<Ident> {
-        let Ok(order) = u32::try_from(id.order()) else {
-            return None;
-        };
+        let order = u32::try_from(id.order()).ok()?;
         let Some(text) = id.namespace else {
             return Some(Ident {
                 namespace: None,
                 order,
             });
         };
-        match u32::try_from(self.number(text)) {
-            Ok(number) => Some(Ident {
-                namespace: Some(number),
-                order,
-            }),
-            Err(_) => None,
-        }
+        let next = self.namespaces.len();
+        let number = self.namespaces.get(text).copied().unwrap_or(next);
+        Some(Ident {
+            namespace: Some(u32::try_from(number).ok()?),
+            order,
+        })
     }
-}
 
-fn enter_number(word: Option<&[u8]>) -> Result<Asked, &'static str> {
-    let Some(word) = word else {
-        return Err("no record number");
-    };
-    match parse_number(word, 4_294_967_295) {
-        Ok(n) => Ok(Asked::Enter((n & 0xffff_ffff) as u32)),
-        Err(_) => Err("the record number can't be read"),
+    // Only an entry that is taken keeps its namespace.
+    fn keep(&mut self, namespace: Option<&[u8]>) -> Result<(), AllocError> {
+        let Some(text) = namespace else {
+            return Ok(());
+        };
+        let next = self.namespaces.len();
+        let text = Vec::from_slice(self.heap, text)?;
+        self.namespaces.entry(text)?.or_insert(next);
+        Ok(())
     }
-}
 
-// What a command asks for, or why it can't be read. Word 1 is left to the reader of identifiers.
-fn read_command(line: &[u8]) -> Result<Asked, &'static str> {
-    let mut words = Words::of(line);
-    let Some(command) = words.next() else {
-        return Err("no command");
-    };
-    let _id = words.next();
-    let number = words.next();
-    if words.next().is_some() {
-        return Err("too many words");
-    }
-    if command == b"enter".as_slice() {
-        return enter_number(number);
-    }
-    if number.is_some() {
-        return Err("too many words");
-    }
-    if command == b"find".as_slice() {
-        Ok(Asked::Find)
-    } else if command == b"room".as_slice() {
-        Ok(Asked::Room)
-    } else {
-        Err("unknown command")
-    }
-}
-
-fn id_word(line: &[u8]) -> Option<&[u8]> {
-    let mut words = Words::of(line);
-    let _command = words.next();
-    words.next()
-}
-
-// Carries out one command, and says what came of it. Only an entry that is taken keeps its namespace.
-fn answer<I: TermIdToIdxMap>(
-    out: &mut Output,
-    heap: Global,
-    index: &mut I,
-    spaces: &mut Namespaces,
-    what: Asked,
-    id: IdText<'_>,
-) -> io::Result<()> {
-    let Some(ident) = spaces.ident(id) else {
-        return out.text("refused: too many namespaces\n");
-    };
-    match what {
-        Asked::Find => match index.get_term(ident) {
-            None => out.text("none\n"),
-            Some(number) => number_line(out, heap, "", number),
-        },
-        Asked::Room => out.text(if index.room(ident) { "yes\n" } else { "no\n" }),
-        Asked::Enter(number) => match index.register_term(ident, number) {
-            Err(_) => out.text("refused: no room\n"),
+    fn enter(&mut self, id: IdText<'_>, ident: Ident, number: u32) -> io::Result<Answer> {
+        match self.index.register_term(ident, number) {
+            Err(_) => Ok(Answer::NoRoom),
             Ok(displaced) => {
-                if let Some(text) = id.namespace {
-                    spaces.keep(heap, text)?;
-                }
-                match displaced {
-                    None => out.text("taken\n"),
-                    Some(old) => number_line(out, heap, "taken in place of ", old),
-                }
+                self.keep(id.namespace)?;
+                Ok(Answer::Taken(displaced))
             }
-        },
-    }
-}
-
-fn number_line(out: &mut Output, heap: Global, what: &str, number: u32) -> io::Result<()> {
-    out.text(what)?;
-    out.number(heap, u64::from(number))?;
-    out.text("\n")
-}
-
-// One line of standard input; a blank one asks nothing.
-fn command<I: TermIdToIdxMap>(
-    out: &mut Output,
-    heap: Global,
-    index: &mut I,
-    spaces: &mut Namespaces,
-    line: &[u8],
-) -> io::Result<()> {
-    let what = match read_command(line) {
-        Ok(what) => what,
-        Err(why) => {
-            out.text("not read: ")?;
-            out.text(why)?;
-            return out.text("\n");
         }
-    };
-    let Some(word) = id_word(line) else {
-        return out.text("not read: no identifier\n");
-    };
-    match parse_id(word) {
-        Err(_) => out.text("not read: the identifier can't be read\n"),
-        Ok(id) => answer(out, heap, index, spaces, what, id),
+    }
+
+    fn answer(&mut self, asked: Asked, id: IdText<'_>) -> io::Result<Answer> {
+        let Some(ident) = self.ident(id) else {
+            return Ok(Answer::TooManyNamespaces);
+        };
+        match asked {
+            Asked::Find => Ok(Answer::Found(self.index.get_term(ident))),
+            Asked::Room => Ok(Answer::HasRoom(self.index.room(ident))),
+            Asked::Enter(number) => self.enter(id, ident, number),
+        }
     }
 }
 
-// All commands, and how many identifiers are held in the end.
-fn commands<I: TermIdToIdxMap>(
-    rt: &HostRuntime,
-    index: &mut I,
+// All commands, and how many identifiers are held in the end. A blank line asks nothing.
+fn commands<W: Write, I: TermIdToIdxMap>(
+    out: &mut W,
+    session: &mut Session<I>,
     lines: Lines<'_>,
 ) -> io::Result<()> {
-    let heap = rt.alloc();
-    let mut out = Output::new(heap);
-    let mut spaces = Namespaces {
-        texts: Vec::new(heap),
-    };
-    let mut number: u64 = 0;
-    let mut left = lines;
-    while let Some(line) = left.next() {
-        if !line.is_empty() {
-            out.number(heap, number)?;
-            out.text(": ")?;
-            command(&mut out, heap, index, &mut spaces, line)?;
+    for (line, number) in lines.zip(0u64..) {
+        if line.is_empty() {
+            continue;
         }
-        number = number.saturating_add(1);
-        out.pass_on(rt)?;
+        match read_command(line) {
+            Err(fault) => writeln!(out, "{number}: not read: {fault}")?,
+            Ok((asked, id)) => {
+                let answer = session.answer(asked, id)?;
+                writeln!(out, "{number}: {answer}")?;
+            }
+        }
     }
-    out.text("held: ")?;
-    out.number(heap, index.held() as u64)?;
-    out.text("\n")?;
-    out.flush(rt)
+    writeln!(out, "held: {}", session.index.held())
 }
 
-fn over_front(rt: &HostRuntime, wanted: &IndexOptions, bytes: &[u8]) -> io::Result<()> {
+fn over_front(rt: &HostRuntime, wanted: IndexOptions, bytes: &[u8]) -> io::Result<()> {
     let heap = rt.alloc();
-    let mut slots = vec![in heap; Slot::Free; wanted.slots]?;
+    let mut slots = vec![in heap; None; wanted.slots]?;
     let mut orders = [None; LOW];
-    let mut table = term_table(&mut slots[..], wanted.seed);
-    let mut front = Front::new(&mut orders, &mut table);
-    commands(rt, &mut front, Lines::of(bytes, LineMode::EachLine))
+    let mut table = term_table(&mut slots, wanted.seed);
+    let mut session = Session {
+        index: Front::new(&mut orders, &mut table),
+        namespaces: BTreeMap::new(heap),
+        heap,
+    };
+    let mut out = BufWriter::new(heap, rt.stdout())?;
+    commands(&mut out, &mut session, Lines::of(bytes, LineMode::EachLine))?;
+    out.flush()
 }
 
 // The command `index`.
-pub(crate) fn run(rt: &HostRuntime, wanted: &IndexOptions) -> Result<(), Failed> {
+pub(crate) fn run<'a>(rt: &HostRuntime, wanted: IndexOptions) -> Result<(), Failure<'a>> {
+    // matched: a `map_err` to an error whose lifetime neither argument nor capture names is not covered yet
     match input::read_stdin(rt) {
-        Err(why) => Err(failed::tell(rt, "cannot read standard input", "", why)),
-        Ok(bytes) => match over_front(rt, wanted, &bytes[..]) {
-            Err(why) => Err(failed::tell(rt, "cannot go on", "", why)),
+        Err(why) => Err(Failure::StandardInput(why)),
+        Ok(bytes) => match over_front(rt, wanted, &bytes) {
+            Err(why) => Err(Failure::Commands(why)),
             Ok(()) => Ok(()),
         },
     }

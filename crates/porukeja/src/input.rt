@@ -1,43 +1,58 @@
-// A file's bytes, read in large parts.
-use std::fs::File;
+// All bytes of a file or of standard input.
+use std::fs::{self, File};
 use std::io;
 use std::io::Read;
 
-const PART: usize = 1_048_576;
+const MEBIBYTE: usize = 1_048_576;
 
 // How many bytes are read between two words of progress.
-const STEP: usize = 67_108_864;
+const STEP: usize = 64 * MEBIBYTE;
 
-// All bytes that are left. With `progress`, stderr is told how much is read.
-fn read_all<F: Read>(rt: &HostRuntime, from: &mut F, progress: bool) -> io::Result<Vec<u8>> {
-    let heap = rt.alloc();
-    let mut bytes: Vec<u8> = Vec::new(heap);
-    let mut part = vec![in heap; 0u8; PART]?;
-    let mut told = 0usize;
-    for _ in 0..u64::MAX {
-        let n = from.read(&mut part[..])?;
-        if n == 0 {
-            break;
+// A reader that says on stderr how much was read.
+#[derive(Drop)]
+struct Telling<'r, R> {
+    rt: &'r HostRuntime,
+    from: R,
+    read: usize,
+}
+
+impl<'r, R: Read> Read for Telling<'r, R> {
+    fn read(&mut self, buf: &mut [u8]) -> io::Result<usize> {
+        let n = self.from.read(buf)?;
+        let before = self.read / STEP;
+        self.read = self.read.saturating_add(n);
+        if self.read / STEP > before {
+            let mebibytes = self.read / MEBIBYTE;
+            eprintln!(self.rt; "{mebibytes} MiB read")?;
         }
-        bytes.extend_from_slice(&part[0..n])?;
-        let steps = bytes.len() / STEP;
-        if progress && steps > told {
-            told = steps;
-            let mebibytes = bytes.len() / 1_048_576;
-            eprintln!(rt; "{mebibytes} MiB read")?;
-        }
+        Ok(n)
     }
+}
+
+fn read_all<R: Read>(rt: &HostRuntime, from: &mut R) -> io::Result<Vec<u8>> {
+    let mut bytes = Vec::new(rt.alloc());
+    from.read_to_end(&mut bytes)?;
     Ok(bytes)
 }
 
-// All bytes of a file.
+// All bytes of a file. With `progress`, stderr is told how much is read.
 pub(crate) fn read_file(rt: &HostRuntime, path: &str, progress: bool) -> io::Result<Vec<u8>> {
     let mut file = File::open(rt, path)?;
-    read_all(rt, &mut file, progress)
+    if progress {
+        read_all(
+            rt,
+            &mut Telling {
+                rt,
+                from: file,
+                read: 0,
+            },
+        )
+    } else {
+        read_all(rt, &mut file)
+    }
 }
 
 // All bytes of standard input.
 pub(crate) fn read_stdin(rt: &HostRuntime) -> io::Result<Vec<u8>> {
-    let mut stdin = rt.stdin();
-    read_all(rt, &mut stdin, false)
+    read_all(rt, &mut rt.stdin())
 }

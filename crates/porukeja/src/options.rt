@@ -1,7 +1,7 @@
 // The command line.
 use ids::parse_number;
 use lines::LineMode;
-use std::alloc::{AllocError, Global};
+use std::fmt;
 
 pub(crate) const USAGE: &str = "\
 usage: porukeja COMMAND
@@ -24,107 +24,108 @@ outside printable ASCII stand as \\xNN, and an empty text as \"\".
 ";
 
 // What `kinds` is asked for.
-#[derive(Drop)]
-pub(crate) struct KindsOptions {
-    pub path: String,
+#[derive(Clone, Copy)]
+pub(crate) struct KindsOptions<'a> {
+    pub path: &'a str,
     pub names: bool,
     pub mode: LineMode,
     pub progress: bool,
 }
 
 // What `index` is asked for.
-#[derive(Drop)]
+#[derive(Clone, Copy)]
 pub(crate) struct IndexOptions {
     pub slots: usize,
     pub seed: u64,
 }
 
-#[derive(Drop)]
-pub(crate) enum Command {
+#[derive(Clone, Copy)]
+pub(crate) enum Command<'a> {
     Help,
-    Kinds(KindsOptions),
+    Kinds(KindsOptions<'a>),
     Index(IndexOptions),
-    // what is wrong with the arguments
-    Wrong(String),
 }
 
-fn wrong(heap: Global, what: &str, word: &str) -> Result<Command, AllocError> {
-    Ok(Command::Wrong(format!(in heap; "{what}{word}")?))
+// What is wrong with the arguments.
+#[derive(Clone, Copy, PartialEq, Eq, Debug)]
+pub(crate) enum Misuse<'a> {
+    NoCommand,
+    UnknownCommand(&'a str),
+    UnknownOption(&'a str),
+    SecondTrace(&'a str),
+    NoTrace,
+    UnknownArgument(&'a str),
+    NoNumber(&'a str),
+    NotNumber(&'a str),
 }
 
-fn read_kinds(heap: Global, words: &[String]) -> Result<Command, AllocError> {
-    let mut path: Option<String> = None;
+impl<'a> fmt::Display for Misuse<'a> {
+    fn fmt<W: fmt::Write>(&self, f: &mut fmt::Formatter<W>) -> fmt::Result {
+        match self {
+            Misuse::NoCommand => f.write_str("no command is named"),
+            Misuse::UnknownCommand(word) => write!(f, "unknown command {word}"),
+            Misuse::UnknownOption(word) => write!(f, "unknown option {word}"),
+            Misuse::SecondTrace(word) => write!(f, "more than one trace: {word}"),
+            Misuse::NoTrace => f.write_str("no trace is named"),
+            Misuse::UnknownArgument(word) => write!(f, "unknown argument {word}"),
+            Misuse::NoNumber(option) => write!(f, "no number after {option}"),
+            Misuse::NotNumber(word) => write!(f, "not a number: {word}"),
+        }
+    }
+}
+
+fn read_kinds<'a>(words: &[&'a str]) -> Result<KindsOptions<'a>, Misuse<'a>> {
+    let mut path = None;
     let mut names = false;
     let mut mode = LineMode::Joined;
     let mut progress = false;
     for word in words {
-        let text = word.as_str();
-        if text == "--names" {
-            names = true;
-        } else if text == "--each-line" {
-            mode = LineMode::EachLine;
-        } else if text == "--progress" {
-            progress = true;
-        } else if text.starts_with("-") {
-            return wrong(heap, "unknown option ", text);
-        } else if path.is_some() {
-            return wrong(heap, "more than one trace: ", text);
-        } else {
-            path = Some(word.clone()?);
+        match *word {
+            "--names" => names = true,
+            "--each-line" => mode = LineMode::EachLine,
+            "--progress" => progress = true,
+            option if option.starts_with("-") => return Err(Misuse::UnknownOption(option)),
+            second if path.is_some() => return Err(Misuse::SecondTrace(second)),
+            first => path = Some(first),
         }
     }
-    match path {
-        None => wrong(heap, "no trace is named", ""),
-        Some(path) => Ok(Command::Kinds(KindsOptions {
-            path,
-            names,
-            mode,
-            progress,
-        })),
-    }
+    Ok(KindsOptions {
+        path: path.ok_or(Misuse::NoTrace)?,
+        names,
+        mode,
+        progress,
+    })
 }
 
-fn read_index(heap: Global, words: &[String]) -> Result<Command, AllocError> {
-    let mut slots: u64 = 65_536;
-    let mut seed: u64 = 0;
-    let mut left = words.iter();
-    while let Some(word) = left.next() {
-        let option = word.as_str();
-        if option != "--slots" && option != "--seed" {
-            return wrong(heap, "unknown argument ", option);
-        }
-        let Some(value) = left.next() else {
-            return wrong(heap, "no number after ", option);
-        };
-        let Ok(number) = parse_number(value.as_bytes(), u64::MAX) else {
-            return wrong(heap, "not a number: ", value.as_str());
-        };
-        if option == "--slots" {
-            slots = number;
-        } else {
-            seed = number;
+// The number behind an option.
+fn read_number<'a>(option: &'a str, value: Option<&&'a str>) -> Result<u64, Misuse<'a>> {
+    let value = *value.ok_or(Misuse::NoNumber(option))?;
+    parse_number(value.as_bytes(), u64::MAX).map_err(|_| Misuse::NotNumber(value))
+}
+
+fn read_index<'a>(words: &[&'a str]) -> Result<IndexOptions, Misuse<'a>> {
+    let mut slots = 65_536;
+    let mut seed = 0;
+    for argument in words.chunks(2) {
+        match argument[0] {
+            "--slots" => slots = read_number("--slots", argument.get(1))?,
+            "--seed" => seed = read_number("--seed", argument.get(1))?,
+            other => return Err(Misuse::UnknownArgument(other)),
         }
     }
-    Ok(Command::Index(IndexOptions {
+    Ok(IndexOptions {
         slots: slots as usize,
         seed,
-    }))
+    })
 }
 
 // What the words of the command line ask for.
-pub(crate) fn read(heap: Global, words: &[String]) -> Result<Command, AllocError> {
-    let Some(first) = words.first() else {
-        return wrong(heap, "no command is named", "");
-    };
-    let command = first.as_str();
-    if command == "help" || command == "--help" || command == "-h" {
-        return Ok(Command::Help);
+pub(crate) fn read<'a>(words: &[&'a str]) -> Result<Command<'a>, Misuse<'a>> {
+    let (command, rest) = words.split_first().ok_or(Misuse::NoCommand)?;
+    match *command {
+        "help" | "--help" | "-h" => Ok(Command::Help),
+        "kinds" => Ok(Command::Kinds(read_kinds(rest)?)),
+        "index" => Ok(Command::Index(read_index(rest)?)),
+        other => Err(Misuse::UnknownCommand(other)),
     }
-    if command == "kinds" {
-        return read_kinds(heap, &words[1..]);
-    }
-    if command == "index" {
-        return read_index(heap, &words[1..]);
-    }
-    wrong(heap, "unknown command ", command)
 }

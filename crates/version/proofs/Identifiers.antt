@@ -1,9 +1,11 @@
 -- Identifiers and their texts. Assumes nothing.
-use Rattle.std.proofs.Common.{◌≡◌, ℕ, ◌<◌, ◌≤◌, Bool, true, false, not, ◌&&◌, ◌||◌, eqb, ltb, leb, ◌⊎◌, List, [], ◌∷◌, ◌++◌, map, length, refl, ap, ◌∙◌, inl, inr, ⊎_elim, arith}
-use Rattle.std.proofs.lemmas.Bool.{both_ways, and_parts, and_from, or_cases, or_left, or_right, not-true, leb-true, eqb-true, ne_eqb, cond-true, cond-false, cases_Bool}
-use Rattle.version.specs.Grammar.{digit, letter, character, every, decimal, Identifier, numeric, alphanumeric, spelled, wordy, proper, tagged, dotted}
-use Rattle.version.specs.Reader.{value_on, numeral, released, identifier_of}
-use Rattle.version.proofs.Values.{digit-within, numeral-digits}
+use Rattle.std.proofs.Common.{◌≡◌, ℕ, ◌<◌, Bool, true, not, eqb, ltb, List, [], ◌∷◌, ◌++◌, map, length, refl, ◌∙◌, arith}
+use Rattle.std.proofs.lemmas.Bool.{and_parts, and_from, or_right}
+use Rattle.std.proofs.lemmas.List.Folds.{list_all-append, list_all-map}
+use Rattle.std.proofs.lemmas.Bool.Decides.{nat_tests}
+use Rattle.version.specs.Grammar.{digit, character, every, decimal, Identifier, numeric, alphanumeric, spelled, wordy, proper, tagged, dotted}
+use Rattle.version.specs.Reader.{numeral, released, identifier_of}
+use Rattle.version.proofs.Values.{numeral-digits}
 use Rattle.version.proofs.Numerals.{decimal-numeral, decimal-value, decimal-of}
 use Rattle.version.proofs.Joins.{clear}
 
@@ -14,16 +16,10 @@ every-weaker p q f (x ∷ xs) h =
     and_from (q x) (every q xs) (f x k.0) (every-weaker p q f xs k.1)
 
 pub every_append : {X : Type 0} (p : X → Bool) (xs ys : List X) → every p xs ≡ true → every p ys ≡ true → every p (xs ++ ys) ≡ true
-every_append p [] ys h k = k
-every_append p (x ∷ xs) ys h k =
-    let j = and_parts (p x) (every p xs) h in
-    and_from (p x) (every p (xs ++ ys)) j.0 (every_append p xs ys j.1 k)
+every_append p xs ys h k = list_all-append p xs ys ∙ and_from (every p xs) (every p ys) h k
 
 pub every_map : {X Y : Type 0} (p : Y → Bool) (q : X → Bool) (f : X → Y) → ((x : X) → q x ≡ true → p (f x) ≡ true) → (xs : List X) → every q xs ≡ true → every p (map f xs) ≡ true
-every_map p q f g [] h = refl
-every_map p q f g (x ∷ xs) h =
-    let k = and_parts (q x) (every q xs) h in
-    and_from (p (f x)) (every p (map f xs)) (g x k.0) (every_map p q f g xs k.1)
+every_map p q f g xs h = list_all-map p f xs ∙ every-weaker q (λ x. p (f x)) g xs h
 
 -- a map that leaves each element as it is
 pub map_same : {X Y : Type 0} (q : X → Bool) (f : X → Y) (g : Y → X) → ((x : X) → q x ≡ true → g (f x) ≡ x) → (xs : List X) → every q xs ≡ true → map g (map f xs) ≡ xs
@@ -34,58 +30,32 @@ map_same q f g h (x ∷ xs) k =
 
 -- ---- bytes
 pub digit-character : (b : ℕ) → digit b ≡ true → character b ≡ true
-digit-character b h = or_left (digit b) (letter b || eqb b 45) h
-
--- the characters lie at 45, or from 48 on
-character-within : (b : ℕ) → character b ≡ true → (b ≡ 45) ⊎ (48 ≤ b)
-character-within b h = ⊎_elim
-    (λ d. inr (digit-within b d).0)
-    (λ r. ⊎_elim
-    (λ l. ⊎_elim
-    (λ u. let k = leb-true 65 b (and_parts (leb 65 b) (leb b 90) u).0 in inr (omega arith))
-    (λ u. let k = leb-true 97 b (and_parts (leb 97 b) (leb b 122) u).0 in inr (omega arith))
-    (or_cases (leb 65 b && leb b 90) (leb 97 b && leb b 122) l))
-    (λ e. inl (eqb-true b 45 e))
-    (or_cases (letter b) (eqb b 45) r))
-    (or_cases (digit b) (letter b || eqb b 45) h)
+digit-character b h = grind (arith, nat_tests)
 
 pub character-other : (m : ℕ) → m < 48 → (m ≡ 45 → ⊥) → (b : ℕ) → character b ≡ true → not (eqb b m) ≡ true
-character-other m l n b h = ap not (ne_eqb b m (λ e. ⊎_elim (λ w. n (omega arith)) (λ w. omega arith) (character-within b h)))
+character-other m l n b h = grind (arith, nat_tests)
 
 pub digit-other : (m : ℕ) → m < 48 → (b : ℕ) → digit b ≡ true → not (eqb b m) ≡ true
-digit-other m l b h = let d = digit-within b h in ap not (ne_eqb b m (λ e. omega arith))
+digit-other m l b h = grind (arith, nat_tests)
 
 -- ---- one identifier
 pub released-digits : (t : List ℕ) → released t ≡ true → every digit t ≡ true → numeral t ≡ true
-released-digits t h d = ⊎_elim
-    (λ n. n)
-    (λ w. absurd (both_ways (every digit t) (not-true (every digit t) (and_parts (every character t) (not (every digit t)) w).1) d))
-    (or_cases (numeral t) (wordy t) h)
-
-released-wordy : (t : List ℕ) → released t ≡ true → every digit t ≡ false → wordy t ≡ true
-released-wordy t h d = ⊎_elim (λ n. absurd (both_ways (every digit t) d (numeral-digits t n))) (λ w. w) (or_cases (numeral t) (wordy t) h)
+released-digits t h d = grind (arith, nat_tests)
 
 pub spelled-identifier : (t : List ℕ) → released t ≡ true → spelled (identifier_of t) ≡ t
-spelled-identifier t h = ⊎_elim
-    (λ d. ap spelled (cond-true (every digit t) (numeric (value_on 0 t)) (alphanumeric t) d) ∙ decimal-of t (released-digits t h d))
-    (λ d. ap spelled (cond-false (every digit t) (numeric (value_on 0 t)) (alphanumeric t) d))
-    (cases_Bool (every digit t))
+spelled-identifier t h = let number = released-digits t h in let written = decimal-of t in grind (arith, nat_tests)
 
 pub proper-identifier : (t : List ℕ) → released t ≡ true → proper (identifier_of t) ≡ true
-proper-identifier t h = ⊎_elim
-    (λ d. ap proper (cond-true (every digit t) (numeric (value_on 0 t)) (alphanumeric t) d))
-    (λ d. ap proper (cond-false (every digit t) (numeric (value_on 0 t)) (alphanumeric t) d) ∙ released-wordy t h d)
-    (cases_Bool (every digit t))
+proper-identifier t h = let number = numeral-digits t in grind (arith, nat_tests)
 
 pub released-spelled : (i : Identifier) → proper i ≡ true → released (spelled i) ≡ true
-released-spelled (numeric n) h = or_left (numeral (decimal n)) (wordy (decimal n)) (decimal-numeral n)
+released-spelled (numeric n) h = let number = decimal-numeral n in grind (arith, nat_tests)
 released-spelled (alphanumeric t) h = or_right (numeral t) (wordy t) h
 
 pub identifier_spelled : (i : Identifier) → proper i ≡ true → identifier_of (spelled i) ≡ i
 identifier_spelled (numeric n) h =
-    cond-true (every digit (decimal n)) (numeric (value_on 0 (decimal n))) (alphanumeric (decimal n)) (numeral-digits (decimal n) (decimal-numeral n)) ∙ ap numeric (decimal-value n)
-identifier_spelled (alphanumeric t) h =
-    cond-false (every digit t) (numeric (value_on 0 t)) (alphanumeric t) (not-true (every digit t) (and_parts (every character t) (not (every digit t)) h).1)
+    let digits = numeral-digits (decimal n) (decimal-numeral n) in let value = decimal-value n in grind (arith, nat_tests)
+identifier_spelled (alphanumeric t) h = grind (arith, nat_tests)
 
 pub decimal-digits : (n : ℕ) → every digit (decimal n) ≡ true
 decimal-digits n = numeral-digits (decimal n) (decimal-numeral n)

@@ -1,9 +1,11 @@
 -- A cut joined again, and what was joined cut: texts at a byte, and fields at dots. Assumes nothing.
-use Rattle.std.proofs.Common.{◌≡◌, ℕ, ◌<◌, Bool, true, not, eqb, List, [], ◌∷◌, ◌++◌, length, Some, None, Option, sym, refl, ap, ◌∙◌, ⊎_elim, arith}
+use Rattle.std.proofs.Common.{◌≡◌, ℕ, Bool, true, not, eqb, List, [], ◌∷◌, ◌++◌, Some, None, Option, sym, refl, ap, ◌∙◌, arith}
+use Rattle.std.proofs.lemmas.List.Splits.{join_with_byte-slice_split}
+use Rattle.std.proofs.lemmas.Bool.Decides.{nat_tests}
 use Rattle.std.proofs.lemmas.List.{append-nil}
-use Rattle.std.proofs.lemmas.Bool.{and_parts, not-true, eq-eqb, ne_eqb, cond-true, cond-false, cases_eq}
+use Rattle.std.proofs.lemmas.Bool.{and_parts}
 use Rattle.version.specs.Grammar.{every, dotted, marked}
-use Rattle.version.specs.Reader.{cut_at, longer_front, fields, fields_of, longer_field}
+use Rattle.version.specs.Reader.{cut_at, fields, fields_of}
 use Rattle.version.proofs.FieldCuts.{fields-cut}
 
 -- the byte m and the text after it, or nothing
@@ -17,45 +19,18 @@ clear m t = every (λ b. not (eqb b m)) t
 
 pub cut_back : (m : ℕ) (t : List ℕ) → (cut_at m t).0 ++ back m (cut_at m t).1 ≡ t
 cut_back m [] = refl
-cut_back m (b ∷ bs) = ⊎_elim
-    (λ e. ap (λ p. p.0 ++ back m p.1) (cond-true (eqb b m) ([], Some bs) (longer_front b (cut_at m bs)) (eq-eqb b m e)) ∙ (λ i. sym e i ∷ bs))
-    (λ n. ap (λ p. p.0 ++ back m p.1) (cond-false (eqb b m) ([], Some bs) (longer_front b (cut_at m bs)) (ne_eqb b m n)) ∙ ap (λ r. b ∷ r) (cut_back m bs))
-    (cases_eq b m)
+cut_back m (b ∷ bs) = let h = cut_back m bs in grind (arith, nat_tests)
 
 pub cut_clear : (m : ℕ) (t : List ℕ) (o : Option (List ℕ)) → clear m t ≡ true → cut_at m (t ++ back m o) ≡ (t, o)
 cut_clear m [] None h = refl
-cut_clear m [] (Some u) h = cond-true (eqb m m) ([], Some u) (longer_front m (cut_at m u)) (eq-eqb m m refl)
-cut_clear m (b ∷ bs) o h =
-    let p = and_parts (not (eqb b m)) (clear m bs) h in
-    cond-false (eqb b m) ([], Some (bs ++ back m o)) (longer_front b (cut_at m (bs ++ back m o))) (not-true (eqb b m) p.0) ∙ ap (longer_front b) (cut_clear m bs o p.1)
+cut_clear m [] (Some u) h = grind (arith, nat_tests)
+cut_clear m (b ∷ bs) o h = let rest = cut_clear m bs o in grind (arith, nat_tests)
 
 -- ---- fields
-pub fields-length : (t : List ℕ) → 0 < length (fields t)
-fields-length t = omega (arith, ap length (fields-cut t))
-
-dotted-next : (ts : List (List ℕ)) → 0 < length ts → dotted ([] ∷ ts) ≡ 46 ∷ dotted ts
-dotted-next [] h = absurd (omega arith)
-dotted-next (t ∷ ts) h = refl
-
-dotted-longer : (b : ℕ) (ts : List (List ℕ)) → 0 < length ts → dotted (longer_field b ts) ≡ b ∷ dotted ts
-dotted-longer b [] h = absurd (omega arith)
-dotted-longer b (t ∷ []) h = refl
-dotted-longer b (t ∷ u ∷ us) h = refl
-
-pub dotted-fields : (t : List ℕ) → dotted (fields t) ≡ t
-dotted-fields [] = refl
-dotted-fields (b ∷ bs) = ⊎_elim
-    (λ e. ap dotted (cond-true (eqb b 46) ([] ∷ fields bs) (longer_field b (fields bs)) (eq-eqb b 46 e)) ∙ (dotted-next (fields bs) (fields-length bs) ∙ (λ i. sym e i ∷ dotted-fields bs i)))
-    (λ n. ap dotted (cond-false (eqb b 46) ([] ∷ fields bs) (longer_field b (fields bs)) (ne_eqb b 46 n)) ∙ (dotted-longer b (fields bs) (fields-length bs) ∙ ap (λ r. b ∷ r) (dotted-fields bs)))
-    (cases_eq b 46)
-
-marked-some : (m : ℕ) (ts : List (List ℕ)) → 0 < length ts → marked m ts ≡ m ∷ dotted ts
-marked-some m [] h = absurd (omega arith)
-marked-some m (t ∷ ts) h = refl
-
 pub marked-fields : (m : ℕ) (o : Option (List ℕ)) → marked m (fields_of o) ≡ back m o
 marked-fields m None = refl
-marked-fields m (Some t) = marked-some m (fields t) (fields-length t) ∙ ap (λ r. m ∷ r) (dotted-fields t)
+marked-fields m (Some t) =
+    ap (marked m) (fields-cut t) ∙ ap (λ r. m ∷ r) (ap dotted (sym (fields-cut t)) ∙ join_with_byte-slice_split 46 t)
 
 fields_back : (t : List ℕ) (o : Option (List ℕ)) → clear 46 t ≡ true → fields (t ++ back 46 o) ≡ t ∷ fields_of o
 fields_back t o h = fields-cut (t ++ back 46 o) ∙ ap (λ p. p.0 ∷ fields_of p.1) (cut_clear 46 t o h)

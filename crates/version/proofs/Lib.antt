@@ -1,4 +1,3 @@
-pub mod Runs
 pub mod FirstMark
 pub mod Values
 pub mod FieldCuts
@@ -9,5 +8,5 @@ pub mod Joins
 pub mod Identifiers
 pub mod CoreLaw
 pub mod Whole
-pub mod Compare
+pub mod Ranked
 pub mod Lawful

@@ -1,16 +1,17 @@
 -- Digits without leading zeros: more of them write a larger number, and as many are compared byte by byte. So two of them that
 -- write one number are the same text, which is what `decimal` writes. Assumes nothing.
-use Rattle.std.proofs.Common.{◌≡◌, ℕ, ◌+◌, ◌-◌, ◌*◌, ◌^◌, ◌<◌, ◌≤◌, true, not, ◌||◌, eqb, leb, List, [], ◌∷◌, map, length, get_or, sym, refl, ap, ◌∙◌, ⊎_elim, mul-le-mul_right, mul_assoc, arith}
+use Rattle.std.proofs.Common.{◌≡◌, ℕ, ◌+◌, ◌-◌, ◌*◌, ◌^◌, ◌<◌, ◌≤◌, true, eqb, List, [], ◌∷◌, map, length, get_or, sym, refl, ap, ◌∙◌, ⊎_elim, mul-le-mul_right, mul_assoc, arith}
 use native.Mathlib.Nat.{pow-zero, pow-succ', pow-le-pow_right}
 use Rattle.std.specs.Ordering.{ordering_then}
 use Rattle.std.specs.Int.Digits.{digits_of, number_from_digits_after, AllBelowBase}
 use Rattle.std.proofs.lemmas.Int.Digits.{all_below_base_digits_of, first_digits_of, number_digits_of}
-use Rattle.std.proofs.lemmas.Bool.{and_parts, and_from, or_cases, or_left, not-true, eqb-true, eqb-false, eq-eqb, ne_eqb, le-leb, cond-true, cond-false, cases_order, cases_eq}
+use Rattle.std.proofs.lemmas.Bool.{and_parts, eq-eqb, ne_eqb, cond-true, cond-false, cases_eq}
 use Rattle.version.specs.Grammar.{digit, every, decimal}
 use Rattle.version.specs.Precedence.{by_value, bytes_order}
 use Rattle.version.specs.Reader.{value_on, numeral}
 use Rattle.version.proofs.Values.{digit-within, numeral-digits}
-use Rattle.version.proofs.Orders.{value_less, value_same, value_greater}
+use Rattle.version.proofs.Orders.{value_same, then_equal, same_values, same_lists}
+use Rattle.std.proofs.lemmas.Bool.Decides.{nat_tests}
 
 -- digits after the number n write at least n and as many zeros, and less than n + 1 and as many zeros
 pub value_below : (n : ℕ) (ds : List ℕ) → every digit ds ≡ true → value_on n ds < (n + 1) * 10 ^ length ds
@@ -44,49 +45,16 @@ by_bytes n (x ∷ xs) (y ∷ ys) p q e =
     let dx = digit-within x ps.0 in
     let dy = digit-within y qs.0 in
     let same : length xs ≡ length ys = omega arith in
-    ⊎_elim
-    (λ w.
-    ap (λ o. ordering_then o (bytes_order xs ys)) (value_same x y w) ∙ (by_bytes (n * 10 + (x - 48)) xs ys ps.1 qs.1 same ∙ ap (λ z. by_value (value_on (n * 10 + (x - 48)) xs) (value_on (n * 10 + (z - 48)) ys)) w))
-    (λ d. ⊎_elim
-    (λ l.
-    ap (λ o. ordering_then o (bytes_order xs ys)) (value_less x y l) ∙ sym (value_less _ _ (front-decides (n * 10 + (x - 48)) (n * 10 + (y - 48)) xs ys (omega arith) ps.1 same)))
-    (λ l.
-    ap (λ o. ordering_then o (bytes_order xs ys)) (value_greater x y l) ∙ sym (value_greater _ _ (front-decides (n * 10 + (y - 48)) (n * 10 + (x - 48)) ys xs (omega arith) qs.1 (sym same))))
-    d)
-    (cases_order x y)
-
--- as many digits that write one number are the same
-same_digits : (n : ℕ) (s t : List ℕ) → every digit s ≡ true → every digit t ≡ true → length s ≡ length t → value_on n s ≡ value_on n t → s ≡ t
-same_digits n [] [] p q e v = refl
-same_digits n [] (y ∷ ys) p q e v = absurd (omega arith)
-same_digits n (x ∷ xs) [] p q e v = absurd (omega arith)
-same_digits n (x ∷ xs) (y ∷ ys) p q e v =
-    let ps = and_parts (digit x) (every digit xs) p in
-    let qs = and_parts (digit y) (every digit ys) q in
-    let dx = digit-within x ps.0 in
-    let dy = digit-within y qs.0 in
-    let same : length xs ≡ length ys = omega arith in
-    ⊎_elim
-    (λ w.
-    let rest = same_digits (n * 10 + (x - 48)) xs ys ps.1 qs.1 same (v ∙ ap (λ z. value_on (n * 10 + (z - 48)) ys) (sym w)) in
-    λ i. w i ∷ rest i)
-    (λ d. ⊎_elim
-    (λ l. absurd (omega (arith, front-decides (n * 10 + (x - 48)) (n * 10 + (y - 48)) xs ys (omega arith) ps.1 same)))
-    (λ l. absurd (omega (arith, front-decides (n * 10 + (y - 48)) (n * 10 + (x - 48)) ys xs (omega arith) qs.1 (sym same))))
-    d)
-    (cases_order x y)
+    let less = λ (l : n * 10 + (x - 48) < n * 10 + (y - 48)). front-decides _ _ xs ys l ps.1 same in
+    let more = λ (l : n * 10 + (y - 48) < n * 10 + (x - 48)). front-decides _ _ ys xs l qs.1 (sym same) in
+    let rest = by_bytes (n * 10 + (x - 48)) xs ys ps.1 qs.1 same in
+    grind (arith, nat_tests)
 
 numeral-first : (b : ℕ) (bs : List ℕ) → numeral (b ∷ bs) ≡ true → 0 < length bs → 48 < b
-numeral-first b bs h l =
-    let p = and_parts (every digit (b ∷ bs)) (not (eqb b 48) || eqb (length bs) 0) h in
-    let d = digit-within b (and_parts (digit b) (every digit bs) p.0).0 in
-    ⊎_elim
-    (λ e. let ne = eqb-false b 48 (not-true (eqb b 48) e) in ⊎_elim (λ w. absurd (ne w)) (λ w. omega arith) (cases_eq b 48))
-    (λ e. absurd (omega (arith, eqb-true (length bs) 0 e)))
-    (or_cases (not (eqb b 48)) (eqb (length bs) 0) p.1)
+numeral-first b bs h l = grind (arith, nat_tests)
 
 numeral-some : (t : List ℕ) → numeral t ≡ true → 0 < length t
-numeral-some [] h = absurd (let z : ◌≡◌ {A = ℕ} 0 1 = cc in omega arith)
+numeral-some [] h = absurd (cc)
 numeral-some (b ∷ bs) h = omega arith
 
 -- more digits write a larger number
@@ -101,30 +69,23 @@ shorter_less s (b ∷ bs) p q l =
 
 -- numbers are compared by how many digits they have, and then byte by byte
 pub by_numerals : (s t : List ℕ) → numeral s ≡ true → numeral t ≡ true → ordering_then (by_value (length s) (length t)) (bytes_order s t) ≡ by_value (value_on 0 s) (value_on 0 t)
-by_numerals s t p q = ⊎_elim
-    (λ e. ap (λ o. ordering_then o (bytes_order s t)) (value_same (length s) (length t) e) ∙ by_bytes 0 s t (numeral-digits s p) (numeral-digits t q) e)
-    (λ d. ⊎_elim
-    (λ l. ap (λ o. ordering_then o (bytes_order s t)) (value_less (length s) (length t) l) ∙ sym (value_less _ _ (shorter_less s t p q l)))
-    (λ l. ap (λ o. ordering_then o (bytes_order s t)) (value_greater (length s) (length t) l) ∙ sym (value_greater _ _ (shorter_less t s q p l)))
-    d)
-    (cases_order (length s) (length t))
+by_numerals s t p q =
+    let less = shorter_less s t p q in
+    let more = shorter_less t s q p in
+    let rest = by_bytes 0 s t (numeral-digits s p) (numeral-digits t q) in
+    grind (arith, nat_tests)
 
 same_numeral : (s t : List ℕ) → numeral s ≡ true → numeral t ≡ true → value_on 0 s ≡ value_on 0 t → s ≡ t
-same_numeral s t p q v = ⊎_elim
-    (λ e. same_digits 0 s t (numeral-digits s p) (numeral-digits t q) e v)
-    (λ d. ⊎_elim (λ l. absurd (omega (arith, shorter_less s t p q l))) (λ l. absurd (omega (arith, shorter_less t s q p l))) d)
-    (cases_order (length s) (length t))
+same_numeral s t p q v = same_lists by_value same_values s t (then_equal _ _ (by_numerals s t p q ∙ value_same _ _ v)).1
 
 -- ---- `decimal` writes a numeral, of the number
 bytes_digits : (ds : List ℕ) → AllBelowBase 10 ds → every digit (map (λ d. 48 + d) ds) ≡ true
 bytes_digits [] h = refl
-bytes_digits (d ∷ ds) h =
-    and_from (digit (48 + d)) (every digit (map (λ d. 48 + d) ds)) (and_from (leb 48 (48 + d)) (leb (48 + d) 57) (le-leb 48 (48 + d) (omega arith)) (le-leb (48 + d) 57 (omega (arith, h.0)))) (bytes_digits ds h.1)
+bytes_digits (d ∷ ds) h = let rest = bytes_digits ds h.1 in grind (arith, nat_tests)
 
 bytes_numeral : (ds : List ℕ) → AllBelowBase 10 ds → 0 < get_or ds 0 0 → numeral (map (λ d. 48 + d) ds) ≡ true
 bytes_numeral [] h l = absurd (omega arith)
-bytes_numeral (d ∷ ds) h l =
-    and_from (every digit (map (λ d. 48 + d) (d ∷ ds))) (not (eqb (48 + d) 48) || eqb (length (map (λ d. 48 + d) ds)) 0) (bytes_digits (d ∷ ds) h) (or_left (not (eqb (48 + d) 48)) _ (ap not (ne_eqb (48 + d) 48 (λ e. omega arith))))
+bytes_numeral (d ∷ ds) h l = let all = bytes_digits (d ∷ ds) h in grind (arith, nat_tests)
 
 bytes_value : (n : ℕ) (ds : List ℕ) → value_on n (map (λ d. 48 + d) ds) ≡ number_from_digits_after 10 n ds
 bytes_value n [] = refl
@@ -139,10 +100,8 @@ decimal-numeral n = ⊎_elim
     (cases_eq n 0)
 
 pub decimal-value : (n : ℕ) → value_on 0 (decimal n) ≡ n
-decimal-value n = ⊎_elim
-    (λ e. ap (value_on 0) (cond-true (eqb n 0) _ _ (eq-eqb n 0 e)) ∙ sym e)
-    (λ ne. ap (value_on 0) (cond-false (eqb n 0) _ _ (ne_eqb n 0 ne)) ∙ (bytes_value 0 (digits_of 10 n) ∙ number_digits_of 10 n (omega arith)))
-    (cases_eq n 0)
+decimal-value n =
+    let bytes = bytes_value 0 (digits_of 10 n) in let number = number_digits_of 10 n (omega arith) in grind (arith, nat_tests)
 
 pub decimal-of : (t : List ℕ) → numeral t ≡ true → decimal (value_on 0 t) ≡ t
 decimal-of t p = same_numeral (decimal (value_on 0 t)) t (decimal-numeral (value_on 0 t)) p (decimal-value (value_on 0 t))

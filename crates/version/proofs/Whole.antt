@@ -1,8 +1,8 @@
 -- `parsed` tells a version just where the text is one. Assumes nothing.
-use Rattle.std.proofs.Common.{◌≡◌, ℕ, ◌<◌, Bool, true, cond, not, ◌&&◌, eqb, List, [], ◌∷◌, ◌++◌, map, is_some, Some, None, Option, unwrap_or, sym, refl, ap, ◌∙◌, subst, ⊎_elim, arith}
+use Rattle.std.proofs.Common.{◌≡◌, ℕ, ◌<◌, Bool, true, cond, not, ◌&&◌, eqb, List, [], ◌∷◌, ◌++◌, map, is_some, Some, None, Option, Ordering, sym, refl, ap, ◌∙◌, subst, arith}
 use Rattle.std.specs.Option.{option_map}
 use Rattle.std.proofs.lemmas.List.{append_assoc}
-use Rattle.std.proofs.lemmas.Bool.{and_parts, cond-true, cond-false, cases_Bool}
+use Rattle.std.proofs.lemmas.Bool.Decides.{nat_tests}
 use Rattle.version.specs.Grammar.{every, character, decimal, limit, Semver, spelled, proper, tagged, marked, written, Denotes}
 use Rattle.version.specs.Precedence.{by_precedence, at_least, four_nine}
 use Rattle.version.specs.Reader.{then, cut_at, fields_of, core_of, released, identifier_of, assembled, parsed}
@@ -52,14 +52,7 @@ abbrev made : ℕ × ℕ × ℕ → Option (List ℕ) → Option (List ℕ) → 
 made n before after = record { major = n.0; minor = n.1; patch = n.2; pre = map identifier_of (fields_of before); build = fields_of after }
 
 assembled-told : (n : ℕ × ℕ × ℕ) (before after : Option (List ℕ)) (v : Semver) → assembled (Some n) before after ≡ Some v → (every released (fields_of before) ≡ true) × (every tagged (fields_of after) ≡ true) × (made n before after ≡ v)
-assembled-told n before after v h = ⊎_elim
-    (λ e.
-    let p = and_parts (every released (fields_of before)) (every tagged (fields_of after)) e in
-    (p.0, p.1, ap (λ o. unwrap_or o v) (sym (cond-true (every released (fields_of before) && every tagged (fields_of after)) (Some (made n before after)) None e) ∙ h)))
-    (λ e.
-    let k = sym (cond-false (every released (fields_of before) && every tagged (fields_of after)) (Some (made n before after)) None e) ∙ h in
-    absurd (let z : ◌≡◌ {A = ℕ} 0 1 = cc in omega arith))
-    (cases_Bool (every released (fields_of before) && every tagged (fields_of after)))
+assembled-told n before after v h = (grind (arith, nat_tests), grind (arith, nat_tests), grind (arith, nat_tests))
 
 -- n, before and after are the parts that were read
 module _ (text rest core : List ℕ) (before after : Option (List ℕ)) (n : ℕ × ℕ × ℕ) where
@@ -86,18 +79,18 @@ module _ (text : List ℕ) (v : Semver) (h : parsed text ≡ Some v) where
       let before = (cut_at 45 rest).1 in
       let some = then_some (core_of core) (λ n. cond (every released (fields_of before) && every tagged (fields_of after)) (Some (made n before after)) None) v h in
       let parts = assembled-told some.0 before after v some.2 in
-      subst (Denotes text) parts.2 (denotes_made text rest core before after some.0 (cut_back 43 text) (cut_back 45 rest) (core_told core some.0 some.1) parts.0 parts.1)
+      subst (Denotes text) parts.2 (denotes_made text rest core before after some.0 (cut_back 43 text) (cut_back 45 rest) (core_told core some.0.0 some.0.1 some.0.2 some.1) parts.0 parts.1)
 
 -- ---- both
 pub tells : (text : List ℕ) → Tells text (parsed text)
 tells text = record { sound = is-denoted text; complete = told text }
 
 -- the same of what the code tells
-pub tells_same : (text : List ℕ) (o : Option Semver) → parsed text ≡ o → Tells text o
-tells_same text o e = subst (Tells text) e (tells text)
+pub tells_same : (text : List ℕ) (o : Option Semver) → o ≡ parsed text → Tells text o
+tells_same text o e = subst (Tells text) (sym e) (tells text)
 
 mapped_some : {X Y : Type 0} (f : X → Y) (o : Option X) → is_some (option_map f o) ≡ true → (x : X) × (o ≡ Some x)
-mapped_some f None h = absurd (let z : ◌≡◌ {A = ℕ} 0 1 = cc in omega arith)
+mapped_some f None h = absurd (cc)
 mapped_some f (Some x) h = (x, refl)
 
 pub tells_newness : (text : List ℕ) → TellsNewness text (newness text)
@@ -111,7 +104,7 @@ pub tells_newness_same : (text : List ℕ) (o : Option Bool) → o ≡ newness t
 tells_newness_same text o e = subst (TellsNewness text) (sym e) (tells_newness text)
 
 compared-some : (o p : Option Semver) → is_some (then o (λ v. option_map (by_precedence v) p)) ≡ true → (v : Semver) × (w : Semver) × (o ≡ Some v) × (p ≡ Some w)
-compared-some None p h = absurd (let z : ◌≡◌ {A = ℕ} 0 1 = cc in omega arith)
+compared-some None p h = absurd (cc)
 compared-some (Some v) p h = let q = mapped_some (by_precedence v) p h in (v, q.0, refl, q.1)
 
 pub tells_precedence : (one two : List ℕ) → TellsPrecedence one two (compared one two)
@@ -119,3 +112,7 @@ tells_precedence one two = record {
   sound = λ h. let p = compared-some (parsed one) (parsed two) h in (p.0, p.1, is-denoted one p.0 p.2, is-denoted two p.1 p.3);
   complete = λ v w d e. (λ i. then (told one v d i) (λ x. option_map (by_precedence x) (told two w e i)));
 }
+
+-- the same of what the code tells
+pub tells_precedence_same : (one two : List ℕ) (o : Option Ordering) → o ≡ compared one two → TellsPrecedence one two o
+tells_precedence_same one two o e = subst (TellsPrecedence one two) (sym e) (tells_precedence one two)

@@ -10,6 +10,7 @@
 -- So a version is a value of `Semver`, and a text is a version if it is what `written` makes of such a value.
 use Rattle.std.specs.Prelude.{◌≡◌, ℕ, ◌+◌, ◌^◌, ◌<◌, Bool, true, cond, not, ◌&&◌, ◌||◌, List, [], ◌∷◌, ◌++◌, map, length, ◌==◌, nat_le, nat_lt}
 use Rattle.std.specs.Int.Digits.{digits_of}
+use Rattle.std.specs.List.{list_all, join_with_byte}
 
 -- the bytes `0` to `9`
 abbrev pub digit : ℕ → Bool
@@ -25,8 +26,7 @@ character b = digit b || (letter b || b == 45)
 
 -- each element passes the test
 abbrev pub every : {X : Type 0} → (X → Bool) → List X → Bool
-every test [] = true
-every test (x ∷ xs) = test x && every test xs
+every test xs = list_all test xs
 
 -- a number in decimal, without leading zeros
 abbrev pub decimal : ℕ → List ℕ
@@ -65,9 +65,7 @@ tagged t = nat_lt 0 (length t) && every character t
 
 -- with a dot between each two
 abbrev pub dotted : List (List ℕ) → List ℕ
-dotted [] = []
-dotted (t ∷ []) = t
-dotted (t ∷ u ∷ us) = t ++ (46 ∷ dotted (u ∷ us))
+dotted ts = join_with_byte 46 ts
 
 -- the byte and then the identifiers, or nothing where there are none
 abbrev pub marked : ℕ → List (List ℕ) → List ℕ

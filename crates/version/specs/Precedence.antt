@@ -5,6 +5,7 @@
 -- first difference decides: numbers by value, texts byte by byte in ASCII order, and a number comes before a text. Where one list
 -- of identifiers is the front of the other, the longer one comes later. Build metadata is not looked at.
 use Rattle.std.specs.Prelude.{ℕ, Bool, cond, List, [], ◌∷◌, ◌==◌, nat_lt}
+use Rattle.std.specs.Cmp.Lexicographic.{slice_cmp}
 use Rattle.std.specs.declared.cmp.Ordering.TheVariants.{Less, Equal, Greater}
 use Rattle.std.specs.declared.cmp.Ordering.{Ordering}
 use Rattle.std.specs.Ordering.{is_ge, ordering_then}
@@ -16,10 +17,7 @@ by_value m n = cond (nat_lt m n) Less (cond (m == n) Equal Greater)
 
 -- the first that differ decide; the front of a list comes before the list
 abbrev pub by_first : {X : Type 0} → (X → X → Ordering) → List X → List X → Ordering
-by_first by [] [] = Equal
-by_first by [] (y ∷ ys) = Less
-by_first by (x ∷ xs) [] = Greater
-by_first by (x ∷ xs) (y ∷ ys) = ordering_then (by x y) (by_first by xs ys)
+by_first by xs ys = slice_cmp by xs ys
 
 -- texts byte by byte, in ASCII order
 abbrev pub bytes_order : List ℕ → List ℕ → Ordering

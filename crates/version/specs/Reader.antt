@@ -1,7 +1,8 @@
 -- Reading a version: the version that a text is, if it is one within the limit. That this says just what `Denotes` says is
 -- proved (`Law`). Assumes nothing.
-use Rattle.std.specs.Prelude.{ℕ, ◌+◌, ◌-◌, ◌*◌, Bool, false, cond, not, ◌&&◌, ◌||◌, List, [], ◌∷◌, map, length, Some, None, Option, ◌==◌, nat_lt}
+use Rattle.std.specs.Prelude.{ℕ, ◌+◌, ◌-◌, ◌*◌, Bool, false, cond, not, ◌&&◌, ◌||◌, List, [], ◌∷◌, map, length, fold, Some, None, Option, ◌==◌, nat_lt}
 use Rattle.std.specs.Borrow.{Bor}
+use Rattle.std.specs.List.{slice_split}
 use Rattle.std.specs.Option.{option_map}
 use Rattle.version.specs.Grammar.{digit, every, wordy, tagged, limit, Identifier, numeric, alphanumeric, Semver}
 
@@ -19,15 +20,9 @@ abbrev pub cut_at : ℕ → List ℕ → List ℕ × Option (List ℕ)
 cut_at m [] = ([], None)
 cut_at m (b ∷ bs) = cond (b == m) ([], Some bs) (longer_front b (cut_at m bs))
 
--- one more byte in front of the first field
-abbrev pub longer_field : ℕ → List (List ℕ) → List (List ℕ)
-longer_field b [] = (b ∷ []) ∷ []
-longer_field b (t ∷ ts) = (b ∷ t) ∷ ts
-
 -- the fields between the dots
 abbrev pub fields : List ℕ → List (List ℕ)
-fields [] = [] ∷ []
-fields (b ∷ bs) = cond (b == 46) ([] ∷ fields bs) (longer_field b (fields bs))
+fields t = slice_split (λ b. b == 46) t
 
 -- where there is no text there are no fields
 abbrev pub fields_of : Option (List ℕ) → List (List ℕ)
@@ -40,8 +35,7 @@ fields_in o = fields_of (option_map (λ x. x.now) o)
 
 -- the number that digits write after the number n
 abbrev pub value_on : ℕ → List ℕ → ℕ
-value_on n [] = n
-value_on n (b ∷ bs) = value_on (n * 10 + (b - 48)) bs
+value_on n ds = fold (λ v b. v * 10 + (b - 48)) n ds
 
 -- digits, of which the first is `0` only if it is the only one
 abbrev pub numeral : List ℕ → Bool

@@ -8,7 +8,7 @@ use Rattle.version.specs.declared.bytes.Class.TheVariants.{Digits, Characters}
 use Rattle.version.specs.declared.fields.Part.{Part}
 use Rattle.version.specs.declared.fields.Part.TheVariants.{PreRelease, Build}
 use Rattle.version.specs.declared.number.Core.{Core}
-use Rattle.version.specs.declared.reader.Version.{Version}
+use Rattle.version.specs.declared.version.Version.{Version}
 
 -- the bytes of a class
 abbrev pub in_class : Class → ℕ → Bool
@@ -31,9 +31,9 @@ identifiers_in o = map identifier_of (fields_in o)
 -- the version that the code holds
 abbrev pub seen : Version → Semver
 seen v = record {
-  major = v.major;
-  minor = v.minor;
-  patch = v.patch;
+  major = v.core.major;
+  minor = v.core.minor;
+  patch = v.core.patch;
   pre = identifiers_in v.pre;
   build = fields_in v.build;
 }

@@ -3,6 +3,7 @@ ghost use Rattle.std.specs.Prelude.{◌≡◌};
 ghost use Rattle.version.specs.Grammar.{every};
 ghost use Rattle.version.specs.View.{in_class};
 
+// An enum and no closure for each test: the definitions speak of a class by its name, which a closure has not.
 #[derive(Clone, Copy)]
 pub enum Class {
     Digits,
@@ -14,19 +15,14 @@ impl Class {
         ensures { result ≡ in_class self b }
     {
         match self {
-            Class::Digits => matches!(b, b'0'..=b'9'),
-            Class::Characters => matches!(b, b'0'..=b'9' | b'A'..=b'Z' | b'a'..=b'z' | b'-'),
+            Class::Digits => b.is_ascii_digit(),
+            Class::Characters => b.is_ascii_alphanumeric() || b == b'-',
         }
     }
 
     pub(crate) fn holds_all(self, text: &[u8]) -> bool
         ensures { result ≡ every (in_class self) text.now }
     {
-        for b in text {
-            if !self.has(*b) {
-                return false;
-            }
-        }
-        true
+        text.iter().all(|b| self.has(*b))
     }
 }

@@ -8,10 +8,8 @@ pub(crate) fn cut(text: &[u8], mark: u8) -> (&[u8], Option<&[u8]>)
     ensures front { result.0.now ≡ (cut_at mark text.now).0 }
     ensures rest { option_map (λ x. x.now) result.1 ≡ (cut_at mark text.now).1 }
 {
-    for (i, b) in text.iter().enumerate() {
-        if *b == mark {
-            return (&text[0..i], Some(&text[i + 1..]));
-        }
+    match text.iter().position(|b| *b == mark) {
+        Some(i) => (&text[..i], Some(&text[i + 1..])),
+        None => (text, None),
     }
-    (text, None)
 }

@@ -5,9 +5,9 @@ ghost use Rattle.version.specs.Reader.{fields_in};
 ghost use Rattle.version.specs.View.{taken_in};
 
 use crate::bytes::Class;
-use crate::cuts::cut;
 use crate::number::is_numeral;
 
+// An enum, as the classes of bytes are, so that the definitions can name the part.
 #[derive(Clone, Copy)]
 pub enum Part {
     PreRelease,
@@ -32,14 +32,9 @@ impl Part {
     pub(crate) fn takes_all(self, text: Option<&[u8]>) -> bool
         ensures { result ≡ every (taken_in self) (fields_in text.entry) }
     {
-        let mut left = text;
-        while let Some(rest) = left {
-            let (field, more) = cut(rest, b'.');
-            if !self.takes(field) {
-                return false;
-            }
-            left = more;
+        match text {
+            None => true,
+            Some(t) => t.split(|b| *b == b'.').all(|field| self.takes(field)),
         }
-        true
     }
 }

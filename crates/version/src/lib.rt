@@ -4,12 +4,16 @@
 mod bytes;
 mod cuts;
 mod fields;
+mod identifier;
 mod number;
 mod order;
 mod reader;
+mod version;
 
+pub use number::Core;
 pub use order::{is_new, precedence, precedence_stands};
-pub use reader::{Version, parse_version};
+pub use reader::parse_version;
+pub use version::Version;
 
 #[cfg(test)]
 mod tests;

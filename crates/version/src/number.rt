@@ -10,10 +10,7 @@ use crate::cuts::cut;
 pub(crate) fn is_numeral(text: &[u8]) -> bool
     ensures { result ≡ numeral text.now }
 {
-    if text.is_empty() || !Class::Digits.holds_all(text) {
-        return false;
-    }
-    text[0] != b'0' || text.len() == 1
+    matches!(text, [b'0'] | [b'1'..=b'9', ..]) && Class::Digits.holds_all(text)
 }
 
 // The number that the text writes, if it is below 2^64. The first digit that passes the limit ends the loop.
@@ -31,7 +28,7 @@ pub(crate) fn read_number(text: &[u8]) -> Option<u64>
 }
 
 // Major, minor and patch: the standard's version core.
-#[derive(Clone, Copy)]
+#[derive(Clone, Copy, PartialEq, Eq, PartialOrd, Ord, Debug)]
 pub struct Core {
     pub major: u64,
     pub minor: u64,

@@ -45,7 +45,8 @@ fn refuses_others(rt: HostRuntime) {
 #[test]
 fn keeps_the_parts(rt: HostRuntime) -> Result<(), Fail> {
     let v = parse_version(b"18446744073709551615.22.333-rc.1+x-y").ok_or("no version")?;
-    assert_eq!(rt; (v.major, v.minor, v.patch), (u64::MAX, 22, 333));
+    let n = v.core;
+    assert_eq!(rt; (n.major, n.minor, n.patch), (u64::MAX, 22, 333));
     assert!(rt; v.pre.ok_or("no pre-release")? == b"rc.1".as_slice());
     assert!(rt; v.build.ok_or("no build")? == b"x-y".as_slice());
     Ok(())

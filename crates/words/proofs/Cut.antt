@@ -1,72 +1,63 @@
 -- One word taken off the front of a line. Assumes nothing.
-use Rattle.std.proofs.Common.{◌≡◌, ℕ, suc, ◌+◌, ◌<◌, ◌≤◌, Bool, true, false, cond, not, List, [], ◌∷◌, length, get_or, take, drop, Some, None, refl, ap, ◌∙◌, suc-add, one-add, arith}
-use Rattle.std.specs.List.{prefix_len}
-use Rattle.std.proofs.lemmas.List.{take_all, at_drop_more, at_drop_all}
-use Rattle.words.specs.Words.{separates, split_by, words_of, longer, first_of, rest_of}
+use Rattle.std.proofs.Common.{◌≡◌, ℕ, ◌+◌, ◌<◌, ◌≤◌, Bool, List, [], ◌∷◌, length, Option, Bor, take, drop, Some, None, position, unwrap_or, sym, refl, ap, ◌∙◌, ⊎_elim, arith}
+use Rattle.std.specs.List.{position_or_len}
+use Rattle.std.specs.Slice.{IsGetRangeResult}
+use Rattle.std.proofs.lemmas.Bool.Decides.{nat_tests}
+use Rattle.std.proofs.lemmas.List.{take_rest, take_all}
+use Rattle.std.proofs.lemmas.Grind.{common_steps}
+use Rattle.std.proofs.lemmas.List.Splits.{slice_split_none, slice_split_first, length-slice_split}
+use Rattle.std.proofs.lemmas.List.Sums.{fails_before_first, count_by-le-length}
+use Rattle.words.specs.Words.{separates, split_by, words_of, ahead, size_left, first_of, rest_of}
 
 -- how many bytes stand before the first that passes a test
 abbrev pub before : (ℕ → Bool) → List ℕ → ℕ
-before p xs = prefix_len (λ b. not (p b)) xs
+before p xs = position_or_len p xs
 
-pub cut_more : (p : ℕ → Bool) (xs : List ℕ) → before p xs < length xs → split_by p xs ≡ take (before p xs) xs ∷ split_by p (drop (before p xs + 1) xs)
-cut_more p [] h = absurd (omega arith)
-cut_more p (b ∷ bs) h =
-    let P : Bool → Type 0 = λ t. cond (not t) (1 + before p bs) 0 < suc (length bs) → cond t ([] ∷ split_by p bs) (longer b (split_by p bs)) ≡ take (cond (not t) (1 + before p bs) 0) (b ∷ bs) ∷ split_by p (drop (cond (not t) (1 + before p bs) 0 + 1) (b ∷ bs)) in
-    let at : (t : Bool) → P t = λ t. elim t as P [
-      | true ↦ λ _. refl
-      | false ↦ λ lt. rw (one-add, suc-add) (ap (longer b) (cut_more p bs (omega arith)))
-    ] in
-    at (p b) h
-
-pub cut_last : (p : ℕ → Bool) (xs : List ℕ) → length xs ≤ before p xs → split_by p xs ≡ take (before p xs) xs ∷ []
-cut_last p [] h = refl
-cut_last p (b ∷ bs) h =
-    let P : Bool → Type 0 = λ t. suc (length bs) ≤ cond (not t) (1 + before p bs) 0 → cond t ([] ∷ split_by p bs) (longer b (split_by p bs)) ≡ take (cond (not t) (1 + before p bs) 0) (b ∷ bs) ∷ [] in
-    let at : (t : Bool) → P t = λ t. elim t as P [
-      | true ↦ λ lt. absurd (omega arith)
-      | false ↦ λ lt. rw one-add (ap (longer b) (cut_last p bs (omega arith)))
-    ] in
-    at (p b) h
-
--- the same, as the code has it: n is the place that it found
+-- n is the place of the first byte that passes
 pub taken : (p : ℕ → Bool) (xs : List ℕ) (n : ℕ) → n ≡ before p xs → n < length xs → split_by p xs ≡ take n xs ∷ split_by p (drop (n + 1) xs)
-taken p xs n e h = rw e (cut_more p xs (rw e at h))
+taken p xs n e h = rw e (slice_split_first p xs 0 (rw e at h))
+
+-- no byte passes
+past : (p : ℕ → Bool) (xs : List ℕ) → length xs ≤ before p xs → split_by p xs ≡ xs ∷ []
+past p xs h = slice_split_none p xs (λ k x m. let f = fails_before_first p xs k x (grind (arith, common_steps)) in grind (arith, common_steps))
 
 pub taken_last : (p : ℕ → Bool) (xs : List ℕ) (n : ℕ) → n ≡ before p xs → n ≡ length xs → split_by p xs ≡ xs ∷ []
-taken_last p xs n e h = cut_last p xs (omega arith) ∙ ap (λ w. w ∷ []) (take_all (before p xs) xs (omega arith))
+taken_last p xs n e h = past p xs (omega arith)
 
-pub same_longer : (b : ℕ) (ws : List (List ℕ)) → 0 < length ws → length (longer b ws) ≡ length ws
-same_longer b [] h = absurd (omega arith)
-same_longer b (w ∷ ws) h = refl
+-- the same, by what `position` gives
+pub taken_at : (p : ℕ → Bool) (xs : List ℕ) (n : ℕ) → position p xs ≡ Some n → split_by p xs ≡ take n xs ∷ split_by p (drop (n + 1) xs)
+taken_at p xs n h = taken p xs n (grind (arith, nat_tests)) (grind (arith, nat_tests))
+
+pub taken_none : (p : ℕ → Bool) (xs : List ℕ) → position p xs ≡ None → split_by p xs ≡ xs ∷ []
+taken_none p xs h = past p xs (grind (arith, nat_tests))
 
 -- at least one word, and at most one more than there are bytes
 pub words_count : (xs : List ℕ) → (0 < length (words_of xs)) × (length (words_of xs) ≤ length xs + 1)
-words_count [] = (omega arith, omega arith)
-words_count (b ∷ bs) =
-    let h = words_count bs in
-    let P : Bool → Type 0 = λ t. (0 < length (cond t ([] ∷ words_of bs) (longer b (words_of bs)))) × (length (cond t ([] ∷ words_of bs) (longer b (words_of bs))) ≤ suc (length bs) + 1) in
-    let at : (t : Bool) → P t = λ t. elim t as P [
-      | true ↦ (omega arith, omega arith)
-      | false ↦ (omega (arith, same_longer b (words_of bs) h.0), omega (arith, same_longer b (words_of bs) h.0))
-    ] in
-    at (separates b)
-
--- one byte more: a separator begins another word
-count_cond : (t : Bool) (b : ℕ) (bs : List ℕ) → length (cond t ([] ∷ words_of bs) (longer b (words_of bs))) ≡ cond t 1 0 + length (words_of bs)
-count_cond true b bs = omega arith
-count_cond false b bs = omega (arith, same_longer b (words_of bs) (words_count bs).0)
-
-pub count_more : (xs : List ℕ) (i : ℕ) → i < length xs → length (words_of (drop i xs)) ≡ cond (separates (get_or xs i 0)) 1 0 + length (words_of (drop (i + 1) xs))
-count_more xs i h = at_drop_more (λ l. length (words_of l)) xs i 0 h ∙ count_cond (separates (get_or xs i 0)) (get_or xs i 0) (drop (i + 1) xs)
-
-pub count_all : (xs : List ℕ) (i : ℕ) → length xs ≤ i → length (words_of (drop i xs)) ≡ 1
-count_all xs i h = at_drop_all (λ l. length (words_of l)) xs i h
+words_count xs = (omega (arith, length-slice_split separates xs), omega (arith, length-slice_split separates xs, count_by-le-length separates xs))
 
 -- the first of some words, and those behind it
 pub from_first : (ms ns : List (List ℕ)) (w : List ℕ) → Some w ≡ first_of ms → ns ≡ rest_of ms → ms ≡ w ∷ ns
-from_first [] ns w e h = let z : ◌≡◌ {A = ℕ} 0 1 = cc in absurd (omega arith)
+from_first [] ns w e h = cc
 from_first (m ∷ ms) ns w e h = cc
 
 pub none_first : (ms : List (List ℕ)) → None ≡ first_of ms → ms ≡ []
-none_first [] e = refl
-none_first (m ∷ ms) e = let z : ◌≡◌ {A = ℕ} 0 1 = cc in absurd (omega arith)
+none_first [] e = cc
+none_first (m ∷ ms) e = cc
+
+-- ---- what is ahead of a cursor behind a word that ends at n
+pub ahead_more : (xs : List ℕ) (n : ℕ) (r : Option (Bor (List ℕ))) → IsGetRangeResult xs (n + 1) (length xs) r → n < length xs → ahead r ≡ words_of (drop (n + 1) xs)
+ahead_more xs n None h l = absurd (⊎_elim (λ a. omega arith) (λ a. omega arith) h.0)
+ahead_more xs n (Some s) h l = ap words_of (h.0.2 ∙ take_rest xs (n + 1))
+
+pub ahead_end : (xs : List ℕ) (n : ℕ) (r : Option (Bor (List ℕ))) → IsGetRangeResult xs (n + 1) (length xs) r → length xs ≤ n → ahead r ≡ []
+ahead_end xs n None h l = refl
+ahead_end xs n (Some s) h l = absurd (omega arith)
+
+pub ahead_size : (xs : List ℕ) (n : ℕ) (r : Option (Bor (List ℕ))) → IsGetRangeResult xs (n + 1) (length xs) r → n ≤ length xs → size_left r + n ≤ length xs
+ahead_size xs n None h l = omega arith
+ahead_size xs n (Some s) h l = omega arith
+
+-- n is the place that `position` gives, or the end
+pub first_cut : (xs : List ℕ) (o : Option ℕ) (n : ℕ) (r : Option (Bor (List ℕ))) → o ≡ position separates xs → n ≡ unwrap_or o (length xs) → IsGetRangeResult xs (n + 1) (length xs) r → words_of xs ≡ take n xs ∷ ahead r
+first_cut xs None n r p e h = let all = take_all n xs (omega arith) in let end = ahead_end xs n r h (omega arith) in let one = taken_none separates xs (sym p) in cc
+first_cut xs (Some k) n r p e h = taken_at separates xs n (sym p ∙ ap Some (sym e)) ∙ ap (λ ws. take n xs ∷ ws) (sym (ahead_more xs n r h (grind (arith, nat_tests))))

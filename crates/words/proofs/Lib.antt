@@ -1,5 +1,5 @@
 pub mod Cut
-pub mod Spans
-pub mod Tables
+pub mod Items
 pub mod Bytes
+pub mod Spans
 pub mod Standing

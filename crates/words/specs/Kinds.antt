@@ -1,5 +1,5 @@
 -- The kinds of line, which word 0 tells by its exact text. Assumes nothing.
-use Rattle.std.specs.Prelude.{◌≡◌, ℕ, cond, List, [], ◌∷◌, Some, None, codes, Option}
+use Rattle.std.specs.Prelude.{◌≡◌, ℕ, List, [], ◌∷◌, Some, codes, Option, find}
 use Rattle.std.specs.Str.{bytes_eq}
 use Rattle.words.specs.declared.kind.LineKind.{LineKind}
 use Rattle.words.specs.declared.kind.LineKind.TheVariants.{ToolVersion, MkQuant, MkVar, MkApp, AttachMeaning, AttachVarNames, Eof, MkLambda, MkProof, AttachEnode, EqExpl, NewMatch, InstDiscovered, Instance, EndOfInstance, DecideAndOr, Decide, Assign, Push, Pop, BeginCheck, QueryDone, ResolveProcess, ResolveLit, Conflict}
@@ -65,14 +65,9 @@ number_of ResolveProcess = 22
 number_of ResolveLit = 23
 number_of Conflict = 24
 
--- the first of some kinds whose text is w
-abbrev pub kind_among : List ℕ → List LineKind → Option LineKind
-kind_among w [] = None
-kind_among w (k ∷ ks) = cond (bytes_eq w (text_of k)) (Some k) (kind_among w ks)
-
 -- the kind whose text is exactly w, none where w is the text of no known kind
 abbrev pub kind_of : List ℕ → Option LineKind
-kind_of w = kind_among w kinds
+kind_of w = find (λ k. bytes_eq w (text_of k)) kinds
 
 -- a line has a kind exactly when its word 0 is that kind's text, so no two kinds share a text
 pub record KindsByText : Type 0 where

@@ -2,20 +2,19 @@
 -- and an empty line has one empty word. Assumes nothing.
 use Rattle.std.specs.Prelude.{ℕ, ◌+◌, Bool, false, cond, ◌&&◌, ◌||◌, List, [], ◌∷◌, length, take, Some, None, Option, ◌==◌, nat_le, nat_lt}
 use Rattle.std.specs.Borrow.{Bor}
+use Rattle.std.specs.List.{slice_split, onto_first}
 
 -- tab, LF, FF, CR, space
 abbrev pub separates : ℕ → Bool
 separates b = b == 32 || (b == 9 || (b == 10 || (b == 12 || b == 13)))
 
--- one more byte at the front of the first word
-abbrev pub longer : ℕ → List (List ℕ) → List (List ℕ)
-longer b [] = (b ∷ []) ∷ []
-longer b (w ∷ ws) = (b ∷ w) ∷ ws
-
 -- the pieces between the bytes that pass a test; a piece may be empty, and there is always one
 abbrev pub split_by : (ℕ → Bool) → List ℕ → List (List ℕ)
-split_by p [] = [] ∷ []
-split_by p (b ∷ bs) = cond (p b) ([] ∷ split_by p bs) (longer b (split_by p bs))
+split_by p s = slice_split p s
+
+-- one more byte at the front of the first piece
+abbrev pub longer : ℕ → List (List ℕ) → List (List ℕ)
+longer b ws = onto_first b ws
 
 -- the words of a line, in order; word 0 is its kind
 abbrev pub words_of : List ℕ → List (List ℕ)

@@ -1,58 +1,39 @@
 // A cursor over the words of a line. The words are parts of the line.
-ghost use Rattle.std.specs.Prelude.{◌≡◌, ℕ, ◌+◌, ◌^◌, ◌<◌, ◌≤◌, not, length, drop, is_some, IfSome, if◌then◌else◌};
+ghost use Rattle.std.specs.Prelude.{◌≡◌, ◌+◌, ◌^◌, ◌≤◌, length, drop, is_some, IfSome, if◌then◌else◌};
 ghost use Rattle.std.specs.Option.{option_map};
-ghost use Rattle.std.specs.List.{prefix_len};
 ghost use Rattle.words.specs.Joined.{WordsApart, unwords};
-ghost use Rattle.words.specs.Words.{separates, words_of, ahead, first_of, rest_of, front_of, size_left};
+ghost use Rattle.words.specs.Words.{separates, words_of, ahead, front_of, size_left};
+
+mod next;
+
+use std::iter;
 
 // Space, tab, LF, FF and CR separate words.
 pub fn is_separator(b: u8) -> bool
     ensures { result ≡ separates b }
 {
-    matches!(b, b' ' | b'\t' | b'\n' | 0x0c | b'\r')
+    b.is_ascii_whitespace()
 }
 
-// How many bytes stand before the first separator.
-fn word_end(s: &[u8]) -> usize
-    ensures value { result ≡ prefix_len (λ b. not (separates b)) s.now }
-    ensures bound { result ≤ length s.now }
-{
-    for (i, b) in s.iter().enumerate() {
-        if is_separator(*b) {
-            return i;
-        }
-    }
-    s.len()
-}
-
-// Where the first `count` words of `s` end: none where it has fewer, and for no words.
+// Where the first `count` words of `s` end: none where it has fewer, and for no words. A word ends at a separator, the last at the end.
 fn span_end(s: &[u8], count: usize) -> Option<usize>
     ensures value { result ≡ option_map length (option_map unwords (front_of count (words_of s.now))) }
     ensures bound { IfSome result (λ e. (e ≤ length s.now) × (count ≤ length (words_of s.now))) }
 {
-    let mut wanted = count;
-    for (i, b) in s.iter().enumerate() {
-        if is_separator(*b) {
-            if wanted == 1 {
-                return Some(i);
-            }
-            wanted = wanted.saturating_sub(1);
-        }
-    }
-    if wanted == 1 { Some(s.len()) } else { None }
+    let last = count.checked_sub(1)?;
+    s.iter()
+        .enumerate()
+        .filter(|(_, b)| is_separator(**b))
+        .map(|(i, _)| i)
+        .chain(iter::once(s.len()))
+        .nth(last)
 }
 
 // How many words `s` has.
 fn count_words(s: &[u8]) -> usize
     ensures { result ≡ length (words_of s.now) }
 {
-    let mut separators: usize = 0;
-    for b in s {
-        if is_separator(*b) {
-            separators += 1;
-        }
-    }
-    separators + 1
+    s.iter().filter(|b| is_separator(**b)).count() + 1
 }
 
 // What is left of a line, and the number of the word that comes next.
@@ -88,26 +69,7 @@ impl<'a> Words<'a> {
     pub fn total(&self) -> usize
         ensures { result ≡ self.now.number + length (ahead self.now.left) }
     {
-        match self.left {
-            None => self.number,
-            Some(s) => self.number + count_words(s),
-        }
-    }
-
-    pub fn next(&mut self) -> Option<&'a [u8]>
-        ensures word { option_map (λ x. x.now) result ≡ first_of (ahead self.old.left) }
-        ensures rest { ahead self.new.left ≡ rest_of (ahead self.old.left) }
-        ensures number { self.new.number ≡ self.old.number + (if is_some result then 1 else 0) }
-    {
-        let line = self.left?;
-        let end = word_end(line);
-        self.number += 1;
-        if end == line.len() {
-            self.left = None;
-            return Some(line);
-        }
-        self.left = Some(&line[end + 1..]);
-        Some(&line[0..end])
+        self.number + self.left.map_or(0, count_words)
     }
 
     // The next `count` words as one span of the line, separators between them included: none, and nothing moves, where fewer are left,
@@ -120,12 +82,8 @@ impl<'a> Words<'a> {
         let line = self.left?;
         let end = span_end(line, count)?;
         self.number += count;
-        if end == line.len() {
-            self.left = None;
-            return Some(line);
-        }
-        self.left = Some(&line[end + 1..]);
-        Some(&line[0..end])
+        self.left = line.get(end + 1..);
+        Some(&line[..end])
     }
 
     // What is left of the line: none once the last word is given.

@@ -42,11 +42,7 @@ fn as_space(b: u8) -> u8
 fn spaced(s: &[u8], i: usize) -> Option<u8>
     ensures { result ≡ slice_get (spaces s.now) i }
 {
-    if i < s.len() {
-        Some(as_space(s[i]))
-    } else {
-        None
-    }
+    s.get(i).map(|b| as_space(*b))
 }
 
 impl<'a> Joined<'a> {
@@ -65,17 +61,11 @@ impl<'a> Joined<'a> {
     pub fn byte(&self, i: usize) -> Option<u8>
         ensures { result ≡ slice_get (joined_text self.now.bars self.now.span.now) i }
     {
-        let bars = self.bars;
-        let span = self.span;
-        if bars == Bars::Bare {
-            return spaced(span, i);
+        match (self.bars, i) {
+            (Bars::Bare, _) => spaced(self.span, i),
+            (_, 0) => Some(b'|'),
+            (Bars::Both, _) if i == self.span.len() + 1 => Some(b'|'),
+            _ => spaced(self.span, i - 1),
         }
-        if i == 0 {
-            return Some(b'|');
-        }
-        if bars == Bars::Both && i == span.len() + 1 {
-            return Some(b'|');
-        }
-        spaced(span, i - 1)
     }
 }

@@ -1,10 +1,11 @@
 // The kind of a line, which its word 0 tells.
-ghost use Rattle.std.specs.Prelude.{◌≡◌, ◌<◌};
-ghost use Rattle.std.specs.Str.{bytes_eq};
+ghost use Rattle.std.specs.Prelude.{◌≡◌, ◌<◌, Some};
 ghost use Rattle.words.specs.Kinds.{KindsByText, kind_of, number_of, text_of};
 
+use std::fmt;
+
 // The kinds that are known: six that are read, the end mark, and eighteen that are passed over.
-#[derive(Clone, Copy, Debug)]
+#[derive(Clone, Copy, PartialEq, Eq, Debug)]
 pub enum LineKind {
     ToolVersion,
     MkQuant,
@@ -61,52 +62,38 @@ pub const KINDS: [LineKind; 25] = [
     LineKind::Conflict,
 ];
 
-fn is_text(word: &[u8], text: &[u8]) -> bool
-    ensures { result ≡ bytes_eq word.now text.now }
-{
-    word == text
-}
-
 impl LineKind {
     // Word 0 of a line of this kind.
-    pub fn text(self) -> &'static [u8]
+    pub fn text(self) -> &'static str
         ensures { result.now ≡ text_of self }
     {
         match self {
-            LineKind::ToolVersion => b"[tool-version]",
-            LineKind::MkQuant => b"[mk-quant]",
-            LineKind::MkVar => b"[mk-var]",
-            LineKind::MkApp => b"[mk-app]",
-            LineKind::AttachMeaning => b"[attach-meaning]",
-            LineKind::AttachVarNames => b"[attach-var-names]",
-            LineKind::Eof => b"[eof]",
-            LineKind::MkLambda => b"[mk-lambda]",
-            LineKind::MkProof => b"[mk-proof]",
-            LineKind::AttachEnode => b"[attach-enode]",
-            LineKind::EqExpl => b"[eq-expl]",
-            LineKind::NewMatch => b"[new-match]",
-            LineKind::InstDiscovered => b"[inst-discovered]",
-            LineKind::Instance => b"[instance]",
-            LineKind::EndOfInstance => b"[end-of-instance]",
-            LineKind::DecideAndOr => b"[decide-and-or]",
-            LineKind::Decide => b"[decide]",
-            LineKind::Assign => b"[assign]",
-            LineKind::Push => b"[push]",
-            LineKind::Pop => b"[pop]",
-            LineKind::BeginCheck => b"[begin-check]",
-            LineKind::QueryDone => b"[query-done]",
-            LineKind::ResolveProcess => b"[resolve-process]",
-            LineKind::ResolveLit => b"[resolve-lit]",
-            LineKind::Conflict => b"[conflict]",
+            LineKind::ToolVersion => "[tool-version]",
+            LineKind::MkQuant => "[mk-quant]",
+            LineKind::MkVar => "[mk-var]",
+            LineKind::MkApp => "[mk-app]",
+            LineKind::AttachMeaning => "[attach-meaning]",
+            LineKind::AttachVarNames => "[attach-var-names]",
+            LineKind::Eof => "[eof]",
+            LineKind::MkLambda => "[mk-lambda]",
+            LineKind::MkProof => "[mk-proof]",
+            LineKind::AttachEnode => "[attach-enode]",
+            LineKind::EqExpl => "[eq-expl]",
+            LineKind::NewMatch => "[new-match]",
+            LineKind::InstDiscovered => "[inst-discovered]",
+            LineKind::Instance => "[instance]",
+            LineKind::EndOfInstance => "[end-of-instance]",
+            LineKind::DecideAndOr => "[decide-and-or]",
+            LineKind::Decide => "[decide]",
+            LineKind::Assign => "[assign]",
+            LineKind::Push => "[push]",
+            LineKind::Pop => "[pop]",
+            LineKind::BeginCheck => "[begin-check]",
+            LineKind::QueryDone => "[query-done]",
+            LineKind::ResolveProcess => "[resolve-process]",
+            LineKind::ResolveLit => "[resolve-lit]",
+            LineKind::Conflict => "[conflict]",
         }
-    }
-
-    // The place of the kind among `KINDS`.
-    pub fn number(self) -> usize
-        ensures value { result ≡ number_of self }
-        ensures bound { result < 25 }
-    {
-        self as usize
     }
 
     // The kind of a line whose word 0 is `word`, none where it is no known kind. A kind is told exactly by its own text.
@@ -114,11 +101,26 @@ impl LineKind {
         ensures value { result ≡ kind_of word.now }
         ensures exact { KindsByText }
     {
-        for kind in KINDS {
-            if is_text(word, kind.text()) {
-                return Some(kind);
-            }
-        }
-        None
+        KINDS
+            .iter()
+            .copied()
+            .find(|kind| word == kind.text().as_bytes())
+    }
+}
+
+impl fmt::Display for LineKind {
+    ghost output = { λ k. Some (text_of k) };
+
+    fn fmt<W: fmt::Write>(&self, f: &mut fmt::Formatter<W>) -> fmt::Result {
+        f.write_str(self.text())
+    }
+}
+
+// The place of the kind among `KINDS`.
+impl From<LineKind> for usize {
+    ghost from_gives = { λ k n. (n ≡ number_of k) × (n < 25) };
+
+    fn from(kind: LineKind) -> usize {
+        kind as usize
     }
 }

@@ -60,14 +60,23 @@ fn joined_texts_have_spaces_and_bars(rt: HostRuntime) {
 
 #[test]
 fn kinds_are_exact(rt: HostRuntime) {
-    assert!(rt; matches!(LineKind::of(b"[mk-app]"), Some(LineKind::MkApp)));
-    assert!(rt; matches!(LineKind::of(b"[eof]"), Some(LineKind::Eof)));
+    assert_eq!(rt; LineKind::of(b"[mk-app]"), Some(LineKind::MkApp));
+    assert_eq!(rt; LineKind::of(b"[eof]"), Some(LineKind::Eof));
     assert!(rt; LineKind::of(b"[mk-app] ").is_none());
     assert!(rt; LineKind::of(b"[mk-ap]").is_none());
     assert!(rt; LineKind::of(b"").is_none());
     for kind in KINDS {
-        assert!(rt; LineKind::of(kind.text()).is_some());
+        assert!(rt; LineKind::of(kind.text().as_bytes()).is_some());
     }
+}
+
+#[test]
+fn kinds_print_their_text(rt: HostRuntime) -> Result<(), Fail> {
+    let kind = LineKind::AttachVarNames;
+    let text = format!(in rt.alloc(); "{kind}")?;
+    assert_eq!(rt; text.as_str(), "[attach-var-names]");
+    assert_eq!(rt; usize::from(kind), 5);
+    Ok(())
 }
 
 #[test]

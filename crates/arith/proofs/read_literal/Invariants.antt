@@ -1,10 +1,9 @@
-use Rattle.std.proofs.Common.{◌≡◌, ℕ, ◌-◌, ◌^◌, ◌≤◌, min, length, drop}
-use Rattle.words.specs.Joined.{spaces}
-use Rattle.arith.specs.Values.{digits_after}
+use Rattle.std.proofs.Common.{length}
+use Rattle.arith.proofs.Steps.{Figures}
 use Rattle.arith.proofs.read_literal.Given as goal
 
-abbrev pub invariant-loop-end : goal.invariant-loop-end
-invariant-loop-end l = (l.end ≤ length l.text) × ((m : ℕ) × (l.n ≡ min m (2 ^ 64 - 1)) × (digits_after m (drop l.end (spaces l.text)) ≡ digits_after 0 (spaces l.text)))
+abbrev pub invariant-loop-rest : goal.invariant-loop-rest
+invariant-loop-rest l = Figures l.n l.rest l.text
 
-abbrev pub decreases-loop-end : goal.decreases-loop-end
-decreases-loop-end l = length l.text - l.end
+abbrev pub decreases-loop-rest : goal.decreases-loop-rest
+decreases-loop-rest l = length l.rest

@@ -1,33 +1,16 @@
-use Rattle.std.proofs.Common.{◌≡◌, ◌+◌, ◌<◌, true, ◌||◌, length, drop, sym, ap, ◌∙◌}
-use Rattle.std.proofs.lemmas.List.{take_rest}
-use Rattle.std.proofs.lemmas.Bool.{or_left, or_right}
-use Rattle.lines.specs.Lines.{line_len, opens}
-use Rattle.lines.proofs.Joining.{below, stop, more, none}
+use Rattle.std.proofs.Common.{◌≡◌, ℕ, ◌<◌, ◌≤◌, Bool, true, false, List, length, Some, None, Option, MatchOption, refl, subst, arith, rules, tests}
+use Rattle.std.proofs.lemmas.Iterator.{first_from_Range}
+use Rattle.lines.specs.Lines.{ends_at}
+use Rattle.lines.proofs.Joining.{IsFirst, first_ends}
 use Rattle.lines.proofs.joined_end.Goals as goal
-use Rattle.lines.proofs.joined_end.Goals.{then-alone-via-then-alone, then-alone-via-else-alone+then-opens_line}
 
-pub returns-then-end-s : goal.returns-then-end-s
-returns-then-end-s c =
-    let s = c.args.s.now in
-    let at = c.loop-alone.at in
-    none s at c.loop-alone.alone c.loop-alone.invariant c.line_feed.result (c.line_feed.ensures.value ∙ ap line_len (take_rest s at)) c.if-end-s.true
+from_range : (alone : Bool) (s : List ℕ) (r : Option ℕ) → MatchOption r ((k : ℕ) → 0 ≤ k → k < length s → ends_at alone s k ≡ false) (λ i. (0 ≤ i) × (i < length s) × (ends_at alone s i ≡ true) × ((k : ℕ) → 0 ≤ k → k < i → ends_at alone s k ≡ false)) → IsFirst alone s r
+from_range alone s None h = λ k lt. h k (omega arith) lt
+from_range alone s (Some i) h = (h.1, h.2, λ k lt. h.3 k (omega arith) lt)
 
-pub returns-then-alone : goal.returns-then-alone
-returns-then-alone c =
+pub returns : goal.returns
+returns c =
     let s = c.args.s.now in
-    let at = c.loop-alone.at in
-    let n = c.line_feed.result in
-    let lt : at + n < length s = below s at n c.loop-alone.invariant.within c.line_feed.ensures.bound c.if-end-s.false in
-    let t : (c.loop-alone.alone || opens (drop (at + n + 1) s)) ≡ true = elim c.then-alone.branch [
-      | then-alone-via-then-alone w ↦ or_left c.loop-alone.alone (opens (drop (at + n + 1) s)) w.if-alone.true
-      | then-alone-via-else-alone+then-opens_line w ↦ or_right c.loop-alone.alone (opens (drop (at + n + 1) s)) (sym (w.if-opens_line.ensures ∙ ap opens (take_rest s (at + n + 1))))
-    ] in
-    (lt, stop s at c.loop-alone.alone c.loop-alone.invariant n (c.line_feed.ensures.value ∙ ap line_len (take_rest s at)) lt t)
-
-pub loop-alone-preserved : goal.loop-alone-preserved
-loop-alone-preserved c =
-    let s = c.args.s.now in
-    let at = c.loop-alone.at in
-    let n = c.line_feed.result in
-    let lt : at + n < length s = below s at n c.loop-alone.invariant.within c.line_feed.ensures.bound c.if-end-s.false in
-    more s at c.loop-alone.alone c.loop-alone.invariant n (c.line_feed.ensures.value ∙ ap line_len (take_rest s at)) lt c.if-alone.false (sym (c.if-opens_line.ensures ∙ ap opens (take_rest s (at + n + 1))))
+    let alone = c.starts_blank-alone.result in
+    let h = first_from_Range _ _ _ c.find.result (λ k. ends_at alone s k ≡ true) (λ k. ends_at alone s k ≡ false) c.find.ensures.ran (λ x q k. search (rules, tests)) (λ x q k. search (rules, tests)) in
+    first_ends _ s c.find.result refl (subst (λ b. IsFirst b s c.find.result) c.starts_blank-alone.ensures (from_range alone s c.find.result h))

@@ -1,18 +1,17 @@
-use Rattle.std.proofs.Common.{not, get_or, ap, arith}
-use Rattle.std.proofs.lemmas.List.Sums.{prefix_len-drop_yes, prefix_len-drop_no, prefix_len-drop_all}
-use Rattle.std.proofs.lemmas.Bool.{eq-eqb, ne_eqb}
+use Rattle.std.proofs.Common.{◌≡◌, ℕ, Bool, not, List, length, ap, ◌∙◌, rules, tests, arith}
+use Rattle.std.specs.List.{position, position_or_len}
+use Rattle.std.specs.Option.{unwrap_or}
+use Rattle.std.proofs.lemmas.List.Sums.{prefix_len-le-length}
+use Rattle.std.proofs.lemmas.Iterator.{YieldsList-from_slice}
+use Rattle.std.proofs.lemmas.Iterator.Search.{position_from_yields_List}
+use Rattle.std.proofs.lemmas.Bool.Decides.{nat_tests}
 use Rattle.lines.specs.Lines.{is_lf}
 use Rattle.lines.proofs.line_feed.Goals as goal
 
-pub returns-then-b-eq10 : goal.returns-then-b-eq10
-returns-then-b-eq10 c =
-    let e = prefix_len-drop_no (λ b. not (is_lf b)) c.args.s.now c.loop-i.i 0 c.loop-i-test.true (ap not (eq-eqb (get_or c.args.s.now c.loop-i.i 0) 10 c.if-b-eq10.true)) in
-    record { value = omega arith; bound = omega arith }
+or_len : (p : ℕ → Bool) (xs : List ℕ) → unwrap_or (position p xs) (length xs) ≡ position_or_len p xs
+or_len p xs = let h = prefix_len-le-length (λ x. not (p x)) xs in grind (arith, nat_tests)
 
-pub loop-i-preserved : goal.loop-i-preserved
-loop-i-preserved c = omega (arith, prefix_len-drop_yes (λ b. not (is_lf b)) c.args.s.now c.loop-i.i 0 c.loop-i-test.true (ap not (ne_eqb (get_or c.args.s.now c.loop-i.i 0) 10 c.if-b-eq10.false)))
-
-pub returns : goal.returns
-returns c =
-    let e = prefix_len-drop_all (λ b. not (is_lf b)) c.args.s.now c.loop-i.i c.loop-i-test.false in
-    record { value = omega arith; bound = omega arith }
+pub returns-clause-value : goal.returns-clause-value
+returns-clause-value c =
+    let e = position_from_yields_List is_lf _ _ c.position.result c.position.ensures.ran (YieldsList-from_slice c.args.s.now cc) (λ x b q k. search (rules, tests)) in
+    c.unwrap_or.ensures ∙ ap (λ r. unwrap_or r (length c.args.s.now)) e ∙ or_len is_lf c.args.s.now

@@ -1,22 +1,16 @@
-use Rattle.std.proofs.Common.{get_or, sym, ◌∙◌}
-use Rattle.std.proofs.lemmas.Bool.{eq-eqb, ne_eqb}
-use Rattle.lines.proofs.Cut.{blank-end, blank-more, blank-not, blank-all}
+use Rattle.std.proofs.Common.{not, ◌&&◌, refl, ◌∙◌, rules, tests}
+use Rattle.std.specs.List.{list_all}
+use Rattle.std.proofs.lemmas.List.Recursion.{same_from_clauses}
+use Rattle.std.proofs.lemmas.Iterator.{YieldsList-from_slice}
+use Rattle.std.proofs.lemmas.Iterator.Consumers.{YieldsList-at}
+use Rattle.std.proofs.lemmas.Iterator.Search.{all_from_yields_List, YieldsList-from_take_while}
+use Rattle.words.specs.Words.{separates}
+use Rattle.lines.specs.Lines.{is_lf, blank, front}
 use Rattle.lines.proofs.starts_blank.Goals as goal
 
-pub returns-then-b-eq10 : goal.returns-then-b-eq10
-returns-then-b-eq10 c =
-    sym (blank-end c.args.s.now c.loop-b.b-index c.loop-b-test.true (eq-eqb (get_or c.args.s.now c.loop-b.b-index 0) 10 c.if-b-eq10.true))
-    ∙ c.loop-b.invariant
-
-pub returns-then-not-is_separator : goal.returns-then-not-is_separator
-returns-then-not-is_separator c =
-    sym (blank-not c.args.s.now c.loop-b.b-index c.loop-b-test.true (ne_eqb (get_or c.args.s.now c.loop-b.b-index 0) 10 c.if-b-eq10.false) (sym c.if-not-is_separator.ensures))
-    ∙ c.loop-b.invariant
-
-pub loop-b-preserved : goal.loop-b-preserved
-loop-b-preserved c =
-    sym (blank-more c.args.s.now c.loop-b.b-index c.loop-b-test.true (ne_eqb (get_or c.args.s.now c.loop-b.b-index 0) 10 c.if-b-eq10.false) (sym c.if-not-is_separator.ensures))
-    ∙ c.loop-b.invariant
-
 pub returns : goal.returns
-returns c = sym (blank-all c.args.s.now c.loop-b.b-index c.loop-b-test.false) ∙ c.loop-b.invariant
+returns c =
+    all_from_yields_List separates _ _ _ c.all.ensures.ran
+    (YieldsList-from_take_while _ (λ b. not (is_lf b)) (YieldsList-at c.take_while.ensures.source (YieldsList-from_slice c.args.s.now cc)) c.take_while.ensures.closure c.take_while.ensures.done (λ x b q k. search (rules, tests)))
+    (λ x b q k. search (rules, tests))
+    ∙ same_from_clauses (list_all separates) blank (λ x t. separates x && t) refl (λ _ _. refl) (λ _ _. refl) (front c.args.s.now)

@@ -1,6 +1,8 @@
-use Rattle.std.proofs.Common.{sym, arith}
-use Rattle.lines.proofs.Cut.{ends_in-some}
+use Rattle.std.proofs.Common.{arith}
+use Rattle.lines.proofs.Cut.{ends_in-tail}
 use Rattle.lines.proofs.without_cr.Goals as goal
 
-pub slice_bounds-result-count : goal.slice_bounds-result-count
-slice_bounds-result-count c = omega (arith, ends_in-some 13 c.args.line.now (sym c.if-ends_in.ensures))
+pub returns : goal.returns
+returns c =
+    let e = ends_in-tail 13 c.args.line.now in
+    grind arith

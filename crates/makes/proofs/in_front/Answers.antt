@@ -1,13 +1,8 @@
-use Rattle.std.proofs.Common.{◌∙◌, subst}
-use Rattle.index.specs.TermTables.{ident_room}
-use Rattle.front.specs.Fronts.{front_room}
-use Rattle.entries.specs.Told.{Asked}
+use Rattle.std.proofs.Common.{◌∙◌}
 use Rattle.makes.proofs.in_front.Goals as goal
 
 pub returns : goal.returns
 returns c =
     let fresh = c.term_table-table.ensures in
     let made = c.new-front.ensures in
-    let asked = c.enter_and_ask.ensures (made.sound fresh.sound fresh.empty) (made.empty fresh.empty) in
-    subst (λ n. Asked (front_room ident_room) n c.args.entries.now c.enter_and_ask.new.entries c.args.id c.enter_and_ask.result)
-    (made.size ∙ fresh.size) asked
+    rw (← (made.size ∙ fresh.size)) (c.enter_and_ask.ensures (made.sound fresh.sound fresh.empty) (made.empty fresh.empty))

@@ -1,7 +1,6 @@
-use Rattle.std.proofs.Common.{◌≡◌, ◌^◌, ◌<◌, true, drop}
-use Rattle.version.specs.Grammar.{digit, every}
+use Rattle.std.proofs.Common.{◌≡◌, ◌<◌, ◌^◌, drop}
 use Rattle.version.specs.Reader.{value_on}
 use Rattle.version.proofs.number.read_number.Given as goal
 
 abbrev pub invariant-loop-b : goal.invariant-loop-b
-invariant-loop-b l = (l.value < 2 ^ 64) × (value_on l.value (drop l.b-index l.text) ≡ value_on 0 l.text) × (every digit (drop l.b-index l.text) ≡ true)
+invariant-loop-b l = (l.value < 2 ^ 64) × (value_on l.value (drop l.b-index l.text) ≡ value_on 0 l.text)

@@ -1,8 +1,6 @@
-use Rattle.std.proofs.Common.{◌≡◌, true, Some, None, sym, ap, ◌∙◌}
+use Rattle.std.proofs.Common.{◌≡◌, Some, None, sym, ap, ◌∙◌}
 use Rattle.std.specs.Option.{option_map}
-use Rattle.std.proofs.lemmas.Option.{MatchOption-from_none}
-use Rattle.version.specs.Grammar.{every}
-use Rattle.version.specs.Reader.{assembled, released, fields_in}
+use Rattle.version.specs.Reader.{assembled}
 use Rattle.version.specs.View.{three, seen}
 use Rattle.version.proofs.Parts.{parts_told, assembled-yes, assembled-no_pre, assembled-no_build}
 use Rattle.version.proofs.Whole.{tells_same}
@@ -14,11 +12,10 @@ returns c =
     let before = option_map (λ x. x.now) c.cut-2.result.1 in
     let after = option_map (λ x. x.now) c.cut.result.1 in
     let e = parts_told c.args.text.now c.cut.result.0.now c.cut-2.result.0.now before after (option_map three c.read_core.result) c.cut.ensures.front c.cut.ensures.rest c.cut-2.ensures.front c.cut-2.ensures.rest c.read_core.ensures in
-    let p = e ∙ ap (λ n. assembled (option_map three n) before after) c.in_ok-core.was ∙ assembled-yes (three c.in_ok-core.core) before after (sym c.if-not-takes_all.ensures) (sym c.if-not-takes_all-2.ensures) in
+    let p = sym (e ∙ ap (λ n. assembled (option_map three n) before after) c.in_ok-core.was ∙ assembled-yes (three c.in_ok-core.core) before after (sym c.if-not-takes_all.ensures) (sym c.if-not-takes_all-2.ensures)) in
     record {
-      told = sym p;
+      told = p;
       tells = tells_same c.args.text.now _ p;
-      proper = sym c.if-not-takes_all.ensures;
     }
 
 pub returns-in_err-core : goal.returns-in_err-core
@@ -26,11 +23,10 @@ returns-in_err-core c =
     let before = option_map (λ x. x.now) c.cut-2.result.1 in
     let after = option_map (λ x. x.now) c.cut.result.1 in
     let e = parts_told c.args.text.now c.cut.result.0.now c.cut-2.result.0.now before after (option_map three c.read_core.result) c.cut.ensures.front c.cut.ensures.rest c.cut-2.ensures.front c.cut-2.ensures.rest c.read_core.ensures in
-    let p = e ∙ ap (λ n. assembled (option_map three n) before after) c.in_err-core.was ∙ ap (option_map seen) (sym c.from_residual.ensures) in
+    let p = sym (e ∙ ap (λ n. assembled (option_map three n) before after) c.in_err-core.was ∙ ap (option_map seen) (sym c.from_residual.ensures)) in
     record {
-      told = sym p;
+      told = p;
       tells = tells_same c.args.text.now _ p;
-      proper = MatchOption-from_none c.from_residual.result (λ v. every released (fields_in v.pre) ≡ true) c.from_residual.ensures;
     }
 
 pub returns-then-not-takes_all : goal.returns-then-not-takes_all
@@ -44,4 +40,5 @@ returns-then-not-takes_all c =
       | then-not-takes_all-via-then-not-takes_all w ↦ assembled-no_pre core before after (sym w.if-not-takes_all.ensures)
       | then-not-takes_all-via-else-not-takes_all+then-not-takes_all-2 w ↦ assembled-no_build core before after (sym w.if-not-takes_all-2.ensures)
     ] in
-    record { told = sym (e ∙ refused); tells = tells_same c.args.text.now _ (e ∙ refused); proper = tt }
+    let p = sym (e ∙ refused) in
+    record { told = p; tells = tells_same c.args.text.now _ p }

@@ -1,49 +1,36 @@
-use Rattle.std.proofs.Common.{◌≡◌, ℕ, ◌+◌, length, drop, Some, None, Option, sym, ap, ◌∙◌, arith}
-use Rattle.words.specs.Words.{words_of}
-use Rattle.words.proofs.Spans.{placed, later, placed_end, step_one, step_sep, step_in, stop_one, stop_not, end_of, within_of}
+use Rattle.std.proofs.Common.{◌≡◌, ℕ, suc, [], ◌∷◌, ◌++◌, length, map, filter, Some, sym, ap, ◌∙◌, rules}
+use Rattle.std.proofs.lemmas.Iterator.{YieldsList-from_slice, YieldsList-from_map}
+use Rattle.std.proofs.lemmas.Iterator.Adapters.{YieldsList-from_once, option_map_id}
+use Rattle.std.proofs.lemmas.Iterator.Consumers.{nth_from_yields_List, YieldsList-at, YieldsList-from_enumerate, YieldsList-from_filter, YieldsList-from_chain}
+use Rattle.std.specs.List.{slice_get, enumerate_from}
+use Rattle.words.specs.Words.{separates, words_of}
+use Rattle.words.proofs.Spans.{ends_all, end_of, end_at, within_of}
 use Rattle.words.proofs.cursor.span_end.Goals as goal
-use Rattle.words.proofs.cursor.span_end.Goals.{then-is_separator+else-wanted-eq1, else-is_separator}
+use Rattle.words.proofs.cursor.span_end.Goals.{After-nth}
 
-pub returns-then-wanted-eq1 : goal.returns-then-wanted-eq1
-returns-then-wanted-eq1 c =
-    let xs = c.args.s.now in
-    let i = c.loop-i.i in
-    let v : ◌≡◌ {A = Option ℕ} (Some c.loop-i.i) (end_of c.args.count (words_of xs)) =
-    sym (step_one xs i c.loop-i-test.true (sym c.if-is_separator.ensures))
-    ∙ sym (ap (λ k. later i (placed k (drop i xs))) c.if-wanted-eq1.true)
-    ∙ c.loop-i.invariant
-    ∙ placed_end c.args.count xs
-    in
-    record { value = v; bound = within_of xs c.args.count (Some c.loop-i.i) v }
+place : (c : After-nth) → c.nth.result ≡ slice_get (map (λ p. p.0) (filter (λ p. separates p.1) (enumerate_from 0 c.args.s.now)) ++ length c.args.s.now ∷ []) c.in_ok-last.last
+place c =
+    sym (option_map_id c.nth.result)
+    ∙ nth_from_yields_List c.nth.result _ c.in_ok-last.last c.nth.ensures.ran
+    (YieldsList-from_chain
+    (YieldsList-at c.chain.ensures.first
+    (YieldsList-from_map _ (λ (p : ℕ × ℕ). p.0)
+    (YieldsList-at c.map.ensures.source
+    (YieldsList-from_filter _ (λ (p : ℕ × ℕ). separates p.1)
+    (YieldsList-at c.filter.ensures.source (YieldsList-from_enumerate (YieldsList-at c.enumerate.ensures.source (YieldsList-from_slice c.args.s.now cc)) c.enumerate.ensures.count))
+    c.filter.ensures.closure (λ x b q k. search rules)))
+    c.map.ensures.closure (λ x r q k. search rules)))
+    (YieldsList-at c.chain.ensures.second (YieldsList-from_once (Some (length c.args.s.now)) c.once.ensures.item)) c.chain.ensures.first_done c.chain.ensures.second_done)
 
-pub loop-i-preserved : goal.loop-i-preserved
-loop-i-preserved c =
-    let xs = c.args.s.now in
-    let i = c.loop-i.i in
-    let k = c.loop-i.wanted in
-    elim c.if-is_separator.branch [
-      | then-is_separator+else-wanted-eq1 w ↦
-          ap (λ n. later (i + 1) (placed n (drop (i + 1) xs))) (w.wanted-is ∙ w.saturating_sub-wanted.ensures)
-          ∙ sym (step_sep xs i c.loop-i-test.true k (sym w.if-is_separator.ensures) w.if-wanted-eq1.false)
-          ∙ c.loop-i.invariant
-      | else-is_separator w ↦
-          ap (λ n. later (i + 1) (placed n (drop (i + 1) xs))) w.wanted-is
-          ∙ sym (step_in xs i c.loop-i-test.true k (sym w.if-is_separator.ensures))
-          ∙ c.loop-i.invariant
-    ]
+value : (c : After-nth) → c.nth.result ≡ end_of c.args.count (words_of c.args.s.now)
+value c =
+    let s = c.args.s.now in
+    let k = c.in_ok-last.last in
+    let n : suc k ≡ c.args.count = search rules in
+    place c ∙ ap (λ l. slice_get l k) (ends_all s) ∙ end_at s k ∙ ap (λ j. end_of j (words_of s)) n
 
-pub returns-then-wanted-eq1-2 : goal.returns-then-wanted-eq1-2
-returns-then-wanted-eq1-2 c =
-    let xs = c.args.s.now in
-    let v : ◌≡◌ {A = Option ℕ} (Some (length xs)) (end_of c.args.count (words_of xs)) =
-    sym (stop_one xs c.loop-i.i c.loop-i.wanted c.loop-i-test.false (omega arith) c.if-wanted-eq1-2.true) ∙ c.loop-i.invariant ∙ placed_end c.args.count xs
-    in
-    record { value = v; bound = within_of xs c.args.count (Some (length xs)) v }
+pub returns-clause-value : goal.returns-clause-value
+returns-clause-value c = value (goal.at.returns-clause-value c).After-nth
 
-pub returns-else-wanted-eq1-2 : goal.returns-else-wanted-eq1-2
-returns-else-wanted-eq1-2 c =
-    let xs = c.args.s.now in
-    let v : ◌≡◌ {A = Option ℕ} (None) (end_of c.args.count (words_of xs)) =
-    sym (stop_not xs c.loop-i.i c.loop-i.wanted c.loop-i-test.false c.if-wanted-eq1-2.false) ∙ c.loop-i.invariant ∙ placed_end c.args.count xs
-    in
-    record { value = v; bound = within_of xs c.args.count (None) v }
+pub returns-clause-bound : goal.returns-clause-bound
+returns-clause-bound c = within_of c.args.s.now c.args.count c.nth.result (value (goal.at.returns-clause-bound c).After-nth)

@@ -1,11 +1,11 @@
-use Rattle.std.proofs.Common.{sym, ap, ◌∙◌, subst}
-use Rattle.keyed.specs.Slots.{Probing, room_in}
-use Rattle.keyed.proofs.Parts.{part}
+use Rattle.std.proofs.Common.{sym, ◌∙◌, subst}
+use Rattle.keyed.specs.Slots.{Probed}
+use Rattle.keyed.proofs.Rows.{probed_room}
 use Rattle.keyed.proofs.table.SlotTable.has_room.Goals as goal
 
 pub returns : goal.returns
-returns g c ok =
+returns g c =
     let k = g.K.Key in
     let t = c.args.self.now in
-    let same = part 16777216 t.slots.now c.min-n.result c.min-n.ensures in
-    c.spare.ensures (subst (λ xs. Probing k.alike (k.code t.seed) xs) (sym same) ok) ∙ ap (λ xs. room_in k.alike xs c.args.key) same
+    let ends = subst (λ ys. Probed k.alike (k.code t.seed) ys c.args.key c.probe.result) c.used.ensures.value c.probe.ensures.ends in
+    c.is_some.ensures ∙ sym (probed_room (k.laws t.seed) t.sound c.args.key c.probe.result ends)

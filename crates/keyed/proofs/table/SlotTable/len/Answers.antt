@@ -1,10 +1,8 @@
-use Rattle.std.proofs.Common.{length, sym, ap, ◌∙◌}
-use Rattle.keyed.specs.Slots.{keys_in}
-use Rattle.keyed.specs.Meaning.{every_key}
-use Rattle.keyed.specs.Tables.{used}
-use Rattle.keyed.proofs.Makes.{table_finite}
-use Rattle.keyed.proofs.Parts.{part}
+use Rattle.std.proofs.Common.{count_by, is_some, sym, ap, ◌∙◌}
 use Rattle.std.proofs.lemmas.Bool.{false≢true}
+use Rattle.keyed.specs.Slots.{used}
+use Rattle.keyed.specs.Meaning.{every_key}
+use Rattle.keyed.proofs.Makes.{keys_held, table_finite}
 use Rattle.keyed.proofs.table.SlotTable.len.Goals as goal
 
 pub returns : goal.returns
@@ -12,6 +10,6 @@ returns g c =
     let k = g.K.Key in
     let t = c.args.self.now in
     record {
-      value = c.count.ensures ∙ ap (λ xs. length (keys_in xs)) (part 16777216 t.slots.now c.min-n.result c.min-n.ensures);
-      counted = λ ok. table_finite k.alike (k.code t.seed) every_key (k.laws t.seed) (used t.slots.now) ok (λ q bad. absurd (false≢true (sym bad)));
+      value = c.count.ensures ∙ ap (count_by (λ x. is_some x)) c.used.ensures.value ∙ sym (keys_held (used t.slots.now));
+      counted = table_finite k.alike (k.code t.seed) every_key (k.laws t.seed) (used t.slots.now) t.sound (λ q bad. absurd (false≢true (sym bad)));
     }

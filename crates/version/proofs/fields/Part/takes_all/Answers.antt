@@ -1,17 +1,11 @@
-use Rattle.std.proofs.Common.{ap, ◌∙◌}
-use Rattle.std.specs.Option.{option_map}
+use Rattle.std.proofs.Common.{◌==◌, sym, ap, ◌∙◌, rules, tests}
+use Rattle.std.proofs.lemmas.Iterator.Search.{all_from_yields_List}
+use Rattle.std.proofs.lemmas.Iterator.Splits.{YieldsList-from_slice_split}
+use Rattle.version.specs.Grammar.{every}
+use Rattle.version.specs.Reader.{fields_in}
 use Rattle.version.specs.View.{taken_in}
-use Rattle.version.proofs.FieldCuts.{every-field, fields-fewer}
 use Rattle.version.proofs.fields.Part.takes_all.Goals as goal
 
-pub returns-then-not-takes : goal.returns-then-not-takes
-returns-then-not-takes c =
-    every-field (option_map (λ x. x.now) c.loop-left.left) c.in-Some.rest.now c.cut.result.0.now (option_map (λ x. x.now) c.cut.result.1) (ap (option_map (λ x. x.now)) c.in-Some.is) c.cut.ensures.front c.cut.ensures.rest (taken_in c.args.self) _ c.if-not-takes.ensures ∙ c.loop-left.invariant
-
-pub loop-left-smaller : goal.loop-left-smaller
-loop-left-smaller c =
-    fields-fewer (option_map (λ x. x.now) c.loop-left.left) c.in-Some.rest.now c.cut.result.0.now (option_map (λ x. x.now) c.cut.result.1) (ap (option_map (λ x. x.now)) c.in-Some.is) c.cut.ensures.front c.cut.ensures.rest
-
-pub loop-left-preserved : goal.loop-left-preserved
-loop-left-preserved c =
-    every-field (option_map (λ x. x.now) c.loop-left.left) c.in-Some.rest.now c.cut.result.0.now (option_map (λ x. x.now) c.cut.result.1) (ap (option_map (λ x. x.now)) c.in-Some.is) c.cut.ensures.front c.cut.ensures.rest (taken_in c.args.self) _ c.if-not-takes.ensures ∙ c.loop-left.invariant
+pub returns-in-Some : goal.returns-in-Some
+returns-in-Some c =
+    all_from_yields_List (taken_in c.args.self) _ _ _ c.all.ensures.ran (YieldsList-from_slice_split _ (λ b. b == 46) _ c.split.ensures.rest c.split.ensures.done c.split.ensures.closure (λ x b q k. search (rules, tests))) (λ x b q k. search (rules, tests)) ∙ ap (λ o. every (taken_in c.args.self) (fields_in o)) (sym c.in-Some.is)

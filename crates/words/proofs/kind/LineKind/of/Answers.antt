@@ -1,24 +1,17 @@
-use Rattle.std.proofs.Common.{◌≡◌, get_or, sym, ap, ◌∙◌}
+use Rattle.std.proofs.Common.{sym, ◌∙◌, rules}
+use Rattle.std.proofs.lemmas.Iterator.{YieldsList-from_slice}
+use Rattle.std.proofs.lemmas.Iterator.Adapters.{option_map_id}
+use Rattle.std.proofs.lemmas.Iterator.Consumers.{YieldsList-from_copied, YieldsList-at}
+use Rattle.std.proofs.lemmas.Iterator.Search.{find_from_yields_List}
 use Rattle.std.specs.Str.{bytes_eq}
-use Rattle.words.specs.declared.kind.LineKind.TheVariants.{ToolVersion}
 use Rattle.words.specs.Kinds.{kinds, text_of}
 use Rattle.words.proofs.Standing.{kinds-by_text}
-use Rattle.words.proofs.Tables.{among_yes, among_no, among_none}
 use Rattle.words.proofs.kind.LineKind.of.Goals as goal
 
-pub returns-then-is_text : goal.returns-then-is_text
-returns-then-is_text c =
-    let w = c.args.word.now in
-    let i = c.loop-kind.kind-index in
-    let e : c.text.result.now ≡ text_of (get_or kinds i ToolVersion) = c.text.ensures in
-    record { exact = kinds-by_text; value = sym (among_yes w kinds i ToolVersion c.loop-kind-test.true (c.if-is_text.ensures ∙ ap (bytes_eq w) e)) ∙ c.loop-kind.invariant }
+pub returns-clause-value : goal.returns-clause-value
+returns-clause-value c =
+    sym (option_map_id c.find.result)
+    ∙ find_from_yields_List (λ k. bytes_eq c.args.word.now (text_of k)) _ _ c.find.result c.find.ensures.ran (YieldsList-from_copied (YieldsList-at c.copied.ensures.source (YieldsList-from_slice kinds cc))) (λ x b q k. search rules)
 
-pub loop-kind-preserved : goal.loop-kind-preserved
-loop-kind-preserved c =
-    let w = c.args.word.now in
-    let i = c.loop-kind.kind-index in
-    let e : c.text.result.now ≡ text_of (get_or kinds i ToolVersion) = c.text.ensures in
-    sym (among_no w kinds i ToolVersion c.loop-kind-test.true (c.if-is_text.ensures ∙ ap (bytes_eq w) e)) ∙ c.loop-kind.invariant
-
-pub returns : goal.returns
-returns c = record { exact = kinds-by_text; value = sym (among_none c.args.word.now kinds c.loop-kind.kind-index c.loop-kind-test.false) ∙ c.loop-kind.invariant }
+pub returns-clause-exact : goal.returns-clause-exact
+returns-clause-exact c = kinds-by_text
