@@ -92,15 +92,17 @@ fn find<I: TermIdToIdxMap>(index: &I, first: u32, many: u32, kind: Kind) -> usiz
         .count()
 }
 
-// Reads so many slots at random places, and answers how many of them are held: what the memory alone costs.
+// Reads so many slots at random places, each picked by what the one before held, and answers how many were held: what the memory alone
+// costs, with one wait for each.
 fn touch(slots: &[Slot<Ident, u32>], many: u32) -> usize {
     let n = slots.len();
     if n == 0 {
         return 0;
     }
-    (0..many)
-        .filter(|i| slots[mix(1, u64::from(*i)) as usize % n].is_some())
-        .count()
+    (0..many).fold(0usize, |held, i| {
+        let at = mix(held as u64, u64::from(i)) as usize % n;
+        held.saturating_add(usize::from(slots[at].is_some()))
+    })
 }
 
 fn each(time: Duration, many: u32) -> u128 {

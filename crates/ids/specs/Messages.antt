@@ -13,4 +13,4 @@ number_message TooLarge = codes "is over 4294967294"
 
 abbrev pub id_message : IdFault → List ℕ
 id_message NoHash = codes "has no `#`"
-id_message (Number fault) = codes "the number after `#` " ++ number_message fault
+id_message (Number fault) = codes "has a number after `#` that " ++ number_message fault

@@ -29,7 +29,7 @@ impl fmt::Display for IdFault {
     fn fmt<W: fmt::Write>(&self, f: &mut fmt::Formatter<W>) -> fmt::Result {
         match self {
             IdFault::NoHash => write!(f, "has no `#`"),
-            IdFault::Number(fault) => write!(f, "the number after `#` {fault}"),
+            IdFault::Number(fault) => write!(f, "has a number after `#` that {fault}"),
         }
     }
 }

@@ -11,6 +11,7 @@ use lines::{LineMode, Lines};
 use std::alloc::{AllocError, Global};
 use std::collections::BTreeMap;
 use std::io::{BufWriter, Write};
+use std::time::{SystemTime, UNIX_EPOCH};
 use std::{fmt, io};
 use words::Words;
 
@@ -185,11 +186,22 @@ fn commands<W: Write, I: TermIdToIdxMap>(
     writeln!(out, "held: {}", session.index.held())
 }
 
+// A seed that differs from run to run, so that no list of identifiers can be made to collide.
+fn seed_of_now(rt: &HostRuntime) -> io::Result<u64> {
+    let since = SystemTime::now(rt)?.duration_since(UNIX_EPOCH);
+    let nanos = since.map_or(0, |time| time.as_nanos());
+    Ok((nanos & u128::from(u64::MAX)) as u64)
+}
+
 fn over_front(rt: &HostRuntime, wanted: IndexOptions, bytes: &[u8]) -> io::Result<()> {
     let heap = rt.alloc();
     let mut slots = vec![in heap; None; wanted.slots]?;
     let mut orders = [None; LOW];
-    let mut table = term_table(&mut slots, wanted.seed);
+    let seed = match wanted.seed {
+        Some(seed) => seed,
+        None => seed_of_now(rt)?,
+    };
+    let mut table = term_table(&mut slots, seed);
     let mut session = Session {
         index: Front::new(&mut orders, &mut table),
         namespaces: BTreeMap::new(heap),

@@ -1,17 +1,17 @@
 // What is read in the lines that make applications and quantifiers.
-use crate::shown::{Shown, ShownJoined, ShownWords};
-use ids::{IdFault, parse_id};
+use crate::shown::{Shown, ShownId, ShownJoined, ShownWords};
+use ids::{IdFault, IdText, parse_id};
 use names::{Qid, QidFault, QuantKindParse, parse_app_name, parse_qid};
 use std::fmt;
 use words::Words;
 
 // Why a line has no name. Word 1 stands before the cause, where there is one.
-#[derive(Clone, Copy, PartialEq, Eq, Debug)]
+#[derive(Clone, Copy)]
 pub(crate) enum LineFault<'a> {
     NoId,
     BadId(&'a [u8], IdFault),
-    NoName(&'a [u8]),
-    BadName(&'a [u8], QidFault),
+    NoName(IdText<'a>),
+    BadName(IdText<'a>, QidFault),
 }
 
 impl<'a> fmt::Display for LineFault<'a> {
@@ -21,24 +21,24 @@ impl<'a> fmt::Display for LineFault<'a> {
             LineFault::BadId(word, fault) => {
                 write!(f, "{} is no identifier: it {fault}", Shown(word))
             }
-            LineFault::NoName(id) => write!(f, "{} no name", Shown(id)),
-            LineFault::BadName(id, fault) => write!(f, "{} {fault}", Shown(id)),
+            LineFault::NoName(id) => write!(f, "{} no name", ShownId(id)),
+            LineFault::BadName(id, fault) => write!(f, "{} {fault}", ShownId(id)),
         }
     }
 }
 
-// Word 1 of a line, which reads as an identifier, and the words behind it.
-fn id_word(line: &[u8]) -> Result<(&[u8], Words<'_>), LineFault<'_>> {
+// The identifier that word 1 of a line reads as, and the words behind it.
+fn id_word(line: &[u8]) -> Result<(IdText<'_>, Words<'_>), LineFault<'_>> {
     let mut words = Words::of(line);
     let word = words.nth(1).ok_or(LineFault::NoId)?;
-    parse_id(word).map_err(|fault| LineFault::BadId(word, fault))?;
-    Ok((word, words))
+    let id = parse_id(word).map_err(|fault| LineFault::BadId(word, fault))?;
+    Ok((id, words))
 }
 
 // A `[mk-app]` line: identifier, name, child words. The name is none where it is longer than scratch memory.
 #[derive(Clone, Copy)]
 pub(crate) struct AppLine<'a> {
-    id: &'a [u8],
+    id: IdText<'a>,
     name: Option<&'a [u8]>,
     children: Words<'a>,
 }
@@ -60,7 +60,7 @@ impl<'a> AppLine<'a> {
 
 impl<'a> fmt::Display for AppLine<'a> {
     fn fmt<W: fmt::Write>(&self, f: &mut fmt::Formatter<W>) -> fmt::Result {
-        write!(f, "{} ", Shown(self.id))?;
+        write!(f, "{} ", ShownId(self.id))?;
         match self.name {
             Some(name) => write!(f, "{}", Shown(name))?,
             None => f.write_str("a name longer than scratch memory")?,
@@ -72,7 +72,7 @@ impl<'a> fmt::Display for AppLine<'a> {
 // A `[mk-quant]` line: identifier, name with variable count, child words.
 #[derive(Clone, Copy)]
 pub(crate) struct QuantLine<'a> {
-    id: &'a [u8],
+    id: IdText<'a>,
     qid: Qid<'a>,
     children: Words<'a>,
 }
@@ -91,7 +91,7 @@ impl<'a> QuantLine<'a> {
 
 impl<'a> fmt::Display for QuantLine<'a> {
     fn fmt<W: fmt::Write>(&self, f: &mut fmt::Formatter<W>) -> fmt::Result {
-        write!(f, "{}", Shown(self.id))?;
+        write!(f, "{}", ShownId(self.id))?;
         match QuantKindParse::parse(self.qid.name) {
             QuantKindParse::Named(name) => write!(f, " named {}", ShownJoined(name))?,
             QuantKindParse::Unnamed { name, id } => {

@@ -19,7 +19,8 @@ usage: porukeja COMMAND
   porukeja index [OPTION..]         enter and find identifiers, by commands on standard input,
                                     one a line: enter ID N, find ID, room ID
       --slots N     how many slots the table has (default 65536)
-      --seed N      what the table's hash is mixed with; no answer depends on it
+      --seed N      what the table's hash is mixed with (default: the time); no answer
+                    depends on it
   porukeja help                     print this text
 
 Lines are counted from 0. In texts that are printed, a space, a backslash and every byte
@@ -45,7 +46,8 @@ pub(crate) struct KindsOptions<'a> {
 #[derive(Clone, Copy)]
 pub(crate) struct IndexOptions {
     pub slots: usize,
-    pub seed: u64,
+    // none: one that differs from run to run is taken
+    pub seed: Option<u64>,
 }
 
 #[derive(Clone, Copy)]
@@ -119,11 +121,11 @@ fn read_number<'a>(option: &'a str, value: Option<&&'a str>) -> Result<u64, Misu
 
 fn read_index<'a>(words: &[&'a str]) -> Result<IndexOptions, Misuse<'a>> {
     let mut slots = 65_536;
-    let mut seed = 0;
+    let mut seed = None;
     for argument in words.chunks(2) {
         match argument[0] {
             "--slots" => slots = read_number("--slots", argument.get(1))?,
-            "--seed" => seed = read_number("--seed", argument.get(1))?,
+            "--seed" => seed = Some(read_number("--seed", argument.get(1))?),
             other => return Err(Misuse::UnknownArgument(other)),
         }
     }

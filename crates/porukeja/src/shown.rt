@@ -1,4 +1,5 @@
 // How texts of the trace are printed: a space, a backslash and every byte outside printable ASCII as \xNN, and an empty text as "".
+use ids::IdText;
 use std::fmt;
 use words::{Joined, Words};
 
@@ -23,6 +24,22 @@ impl<'a> fmt::Display for Shown<'a> {
             show_byte(f, *b)?;
         }
         Ok(())
+    }
+}
+
+// An identifier as it was read: its namespace, `#` and its number.
+#[derive(Clone, Copy)]
+pub(crate) struct ShownId<'a>(pub IdText<'a>);
+
+impl<'a> fmt::Display for ShownId<'a> {
+    fn fmt<W: fmt::Write>(&self, f: &mut fmt::Formatter<W>) -> fmt::Result {
+        if let Some(namespace) = self.0.namespace {
+            write!(f, "{}", Shown(namespace))?;
+        }
+        match self.0.number {
+            Some(number) => write!(f, "#{number}"),
+            None => f.write_str("#"),
+        }
     }
 }
 

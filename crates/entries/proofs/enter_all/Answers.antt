@@ -1,5 +1,6 @@
 use Rattle.std.proofs.Common.{◌∙◌, arith, rules}
 use Rattle.keyed.specs.Refusals.{no_room}
+use Rattle.entries.proofs.Once.{told-once}
 use Rattle.entries.proofs.Running.{more}
 use Rattle.entries.proofs.Spare.{all_taken}
 use Rattle.entries.proofs.enter_all.Goals as goal
@@ -21,3 +22,6 @@ pub returns-clause-spare : goal.returns-clause-spare
 returns-clause-spare g c =
     let t = g.I.TermIdToIdxMap in
     λ ok none. all_taken t.laws (t.size c.args.index.now) c.args.entries.now c.loop-entry.entry-items (t.means c.loop-entry.index) (search rules)
+
+pub returns-clause-once : goal.returns-clause-once
+returns-clause-once g c = told-once

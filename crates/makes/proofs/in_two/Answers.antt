@@ -7,4 +7,4 @@ returns c =
     let below = c.new-below.ensures in
     let made = c.new-front.ensures in
     let empty = below.empty fresh.empty in
-    rw (← (made.size ∙ below.size ∙ fresh.size)) (c.enter_and_ask.ensures (made.sound (below.sound fresh.sound fresh.empty) empty) (made.empty empty))
+    rw (← (made.size ∙ below.size ∙ fresh.size)) (c.enter_and_ask.ensures.asked (made.sound (below.sound fresh.sound fresh.empty) empty) (made.empty empty))
