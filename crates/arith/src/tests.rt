@@ -88,6 +88,139 @@ fn quotients(rt: HostRuntime) -> Result<(), Fail> {
     fails(&rt, b"(/ 0 0)", ValueFault::ZeroDivisor)
 }
 
+// The largest literal, and one more, as each argument of each operator.
+#[test]
+fn literals_under_operators(rt: HostRuntime) -> Result<(), Fail> {
+    gives(&rt, b"(+ 2147483647)", 2147483647, 1)?;
+    gives(&rt, b"(- 2147483647 0)", 2147483647, 1)?;
+    gives(&rt, b"(- 0 2147483647)", -2147483647, 1)?;
+    gives(&rt, b"(* 1 2147483647)", 2147483647, 1)?;
+    gives(&rt, b"(/ 2147483647 1)", 2147483647, 1)?;
+    fails(&rt, b"(+ 2147483648)", ValueFault::TooLarge)?;
+    fails(&rt, b"(+ (- 1) 2147483648)", ValueFault::TooLarge)?;
+    fails(&rt, b"(- 2147483648)", ValueFault::TooLarge)?;
+    fails(&rt, b"(- 2147483648 1)", ValueFault::TooLarge)?;
+    fails(&rt, b"(- 0 2147483648)", ValueFault::TooLarge)?;
+    fails(&rt, b"(* 2147483648)", ValueFault::TooLarge)?;
+    fails(&rt, b"(* 0 2147483648)", ValueFault::TooLarge)?;
+    fails(&rt, b"(/ 2147483648 2)", ValueFault::TooLarge)?;
+    fails(&rt, b"(/ 1 2147483648)", ValueFault::TooLarge)?;
+    fails(&rt, b"(/ 0 2147483648)", ValueFault::TooLarge)?;
+    fails(&rt, b"(max 2147483648)", ValueFault::TooLarge)?;
+    fails(&rt, b"(- 1 2 2147483648)", ValueFault::TooLarge)
+}
+
+// Each operator at the largest numerator of either sign, and at one more.
+#[test]
+fn numerators(rt: HostRuntime) -> Result<(), Fail> {
+    gives(&rt, b"(+ 2147483647 0)", 2147483647, 1)?;
+    gives(&rt, b"(+ 1 2 2147483644)", 2147483647, 1)?;
+    gives(&rt, b"(+ (- 2147483647) 0)", -2147483647, 1)?;
+    gives(&rt, b"(- (- 2147483647))", 2147483647, 1)?;
+    gives(&rt, b"(- 0 (- 2147483647))", 2147483647, 1)?;
+    gives(&rt, b"(* (- 2147483647) (- 1))", 2147483647, 1)?;
+    gives(&rt, b"(/ 2147483647 2147483646)", 2147483647, 2147483646)?;
+    gives(&rt, b"(/ (- 2147483647) (- 1))", 2147483647, 1)?;
+    gives(&rt, b"(/ (- 2147483647) 2)", -2147483647, 2)?;
+    fails(&rt, b"(+ 1 2147483647)", ValueFault::TooLarge)?;
+    fails(&rt, b"(+ 1073741824 1073741824)", ValueFault::TooLarge)?;
+    fails(&rt, b"(+ (- 1) (- 2147483647))", ValueFault::TooLarge)?;
+    fails(&rt, b"(- 2147483647 (- 1))", ValueFault::TooLarge)?;
+    fails(&rt, b"(- 0 2147483647 1)", ValueFault::Unreadable)?;
+    fails(&rt, b"(- (- 1) 2147483647)", ValueFault::TooLarge)?;
+    fails(&rt, b"(* 2 1073741824)", ValueFault::TooLarge)?;
+    fails(&rt, b"(* (- 2) 1073741824)", ValueFault::TooLarge)?;
+    fails(&rt, b"(* (- 1073741824) (- 2))", ValueFault::TooLarge)?;
+    fails(&rt, b"(/ (- 1073741824) (/ 1 2))", ValueFault::TooLarge)?;
+    fails(&rt, b"(/ (- 1073741824) (/ (- 1) 2))", ValueFault::TooLarge)
+}
+
+// The largest denominator.
+#[test]
+fn denominators(rt: HostRuntime) -> Result<(), Fail> {
+    gives(&rt, b"(+ (/ 1 2147483647) 0)", 1, 2147483647)?;
+    gives(&rt, b"(+ (/ 2147483646 2147483647) (/ 1 2147483647))", 1, 1)?;
+    gives(&rt, b"(- (/ 1 2147483647))", -1, 2147483647)?;
+    gives(&rt, b"(- 0 (/ 1 2147483647))", -1, 2147483647)?;
+    gives(&rt, b"(- (/ 1 2147483647) (/ 1 2147483647))", 0, 1)?;
+    gives(&rt, b"(* (/ 1 2147483647) (- 1))", -1, 2147483647)?;
+    gives(
+        &rt,
+        b"(* (/ 2147483646 2147483647) 1)",
+        2147483646,
+        2147483647,
+    )?;
+    gives(&rt, b"(/ 1 (- 2147483647))", -1, 2147483647)?;
+    gives(&rt, b"(/ (- 1) (- 2147483647))", 1, 2147483647)?;
+    gives(&rt, b"(/ (/ 1 2147483647) (/ 1 2147483647))", 1, 1)
+}
+
+// One more. Below 2^31 no two denominators have 2^31 as their least common multiple, so under `+` and `-` the next stands: 2^31 + 1, which
+// is 3 times 715827883.
+#[test]
+fn denominators_too_large(rt: HostRuntime) -> Result<(), Fail> {
+    fails(&rt, b"(+ (/ 1 3) (/ 1 715827883))", ValueFault::TooLarge)?;
+    fails(
+        &rt,
+        b"(+ (/ (- 1) 3) (/ (- 1) 715827883))",
+        ValueFault::TooLarge,
+    )?;
+    fails(&rt, b"(- (/ 1 3) (/ 1 715827883))", ValueFault::TooLarge)?;
+    fails(
+        &rt,
+        b"(- (/ (- 1) 3) (/ 1 715827883))",
+        ValueFault::TooLarge,
+    )?;
+    fails(
+        &rt,
+        b"(* (/ 1 2) (/ (- 1) 1073741824))",
+        ValueFault::TooLarge,
+    )?;
+    fails(&rt, b"(/ (/ 1 2) (- 1073741824))", ValueFault::TooLarge)?;
+    fails(
+        &rt,
+        b"(/ (/ 1 2147483647) 2147483647)",
+        ValueFault::TooLarge,
+    )?;
+    fails(
+        &rt,
+        b"(* (/ 1 2147483647) (/ 1 2147483647))",
+        ValueFault::TooLarge,
+    )
+}
+
+// Partial results are tested in lowest terms, from the left; arguments past the allowed number are only read.
+#[test]
+fn partial_results(rt: HostRuntime) -> Result<(), Fail> {
+    gives(&rt, b"(* 1073741824 (/ 1 2) 2)", 1073741824, 1)?;
+    gives(&rt, b"(+ 2147483647 (- 1) 1)", 2147483647, 1)?;
+    gives(&rt, b"(+ (/ 1 4) (/ 3 4) 2147483646)", 2147483647, 1)?;
+    fails(&rt, b"(* 2147483647 2 0)", ValueFault::TooLarge)?;
+    fails(&rt, b"(* 1073741824 2 (/ 1 2))", ValueFault::TooLarge)?;
+    fails(&rt, b"(+ (- 2147483647) (- 1) 1)", ValueFault::TooLarge)?;
+    fails(&rt, b"(- 2147483647 0 (- 1))", ValueFault::Unreadable)?;
+    fails(&rt, b"(/ 1 2147483647 2)", ValueFault::Unreadable)?;
+    fails(&rt, b"(/ 1 0 5)", ValueFault::ZeroDivisor)?;
+    fails(&rt, b"(max 2147483647 2147483647)", ValueFault::Unreadable)?;
+    fails(&rt, b"(max)", ValueFault::Unreadable)?;
+    fails(&rt, b"(+ )", ValueFault::Unreadable)?;
+    fails(&rt, b"(- )", ValueFault::Unreadable)?;
+    fails(&rt, b"(+)", ValueFault::Unreadable)?;
+    fails(&rt, b"(/ 1)", ValueFault::Unreadable)?;
+    fails(&rt, b"(/ 1 0", ValueFault::ZeroDivisor)
+}
+
+// Brackets that are closed again do not count.
+#[test]
+fn brackets_beside_each_other(rt: HostRuntime) -> Result<(), Fail> {
+    let text = "(+ (- 1) (- 1) (- 1) (- 1) (- 1) (- 1) (- 1) (- 1) (- 1) (- 1) (- 1) \
+        (- 1) (- 1) (- 1) (- 1) (- 1) (- 1) (- 1) (- 1) (- 1) (- 1) (- 1) (- 1) (- 1) \
+        (- 1) (- 1) (- 1) (- 1) (- 1) (- 1) (- 1) (- 1) (- 1) (- 1) (- 1) (- 1) (- 1) \
+        (- 1) (- 1) (- 1) (- 1) (- 1) (- 1) (- 1) (- 1) (- 1) (- 1) (- 1) (- 1) (- 1) \
+        (- 1) (- 1) (- 1) (- 1) (- 1) (- 1) (- 1) (- 1) (- 1) (- 1) (- 1) (- 1) (- 1) (- 1) (- 1))";
+    gives(&rt, text.as_bytes(), -65, 1)
+}
+
 // The order in which refusals come.
 #[test]
 fn refusals(rt: HostRuntime) -> Result<(), Fail> {
@@ -117,6 +250,9 @@ fn deep(rt: HostRuntime) -> Result<(), Fail> {
     text[195] = b'1';
     fails(&rt, &text, ValueFault::TooDeep)?;
     fails(&rt, &text[0..195], ValueFault::TooDeep)?;
+    fails(&rt, &text[0..193], ValueFault::TooDeep)?;
+    fails(&rt, &text[0..192], ValueFault::Unreadable)?;
+    fails(&rt, &text[3..195], ValueFault::Unreadable)?;
     gives(&rt, &text[3..260], 1, 1)?;
     fails(&rt, &text[3..259], ValueFault::Unreadable)
 }

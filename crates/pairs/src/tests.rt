@@ -24,6 +24,13 @@ fn refused(line: &[u8], fault: PairFault, word: usize) -> bool {
     }
 }
 
+// The number and the word of a refusal.
+fn told(line: &[u8]) -> Option<(u8, usize)> {
+    check_var_names(behind_id(line))
+        .err()
+        .map(|refusal| (u8::from(refusal.fault), refusal.word))
+}
+
 #[test]
 fn lists_in_every_form(rt: HostRuntime) {
     assert!(rt; taken(b"x #5 (|a|;|Int|) (|b|;|Bool|)", NameForm::NameAndType, 2));
@@ -98,4 +105,194 @@ fn parts_are_sorted(rt: HostRuntime) -> Result<(), Fail> {
     assert!(rt; kept == b"|T|".as_slice());
     assert!(rt; sort_pair(NameForm::TypeOnly, (b"a", b"T")).is_err());
     Ok(())
+}
+
+#[test]
+fn good_pairs_of_every_form(rt: HostRuntime) {
+    assert!(rt; taken(b"x #5 (;T)", NameForm::TypeOnly, 1));
+    assert!(rt; taken(b"x #5 (;)", NameForm::TypeOnly, 1));
+    assert!(rt; taken(b"x #5 (;|T|)", NameForm::TypeOnly, 1));
+    assert!(rt; taken(b"x #5 (;T);x)", NameForm::TypeOnly, 1));
+    assert!(rt; taken(b"x #5 (||;||)", NameForm::NameAndType, 1));
+    assert!(rt; taken(b"x #5 (|a|;|T|);)", NameForm::NameAndType, 1));
+    assert!(rt;
+        taken(
+            b"x #5 (|a|;|T|) (|b|;|T|) (|c|;||)",
+            NameForm::NameAndType,
+            3
+        )
+    );
+    assert!(rt; taken(b"x #5 ( T) ( T)", NameForm::TypeOnly, 2));
+    assert!(rt; taken(b"x #5 ( )", NameForm::TypeOnly, 1));
+    assert!(rt; taken(b"x #5 ( ;)", NameForm::TypeOnly, 1));
+    assert!(rt; taken(b"x #5 (|| ||)", NameForm::NameAndType, 1));
+    assert!(rt; taken(b"x #5 (|a;b| |T;U|)", NameForm::NameAndType, 1));
+    assert!(rt; taken(b"x #5 (|a|\t|T|)\x0c(|b|\r|U|)", NameForm::NameAndType, 2));
+    assert!(rt; taken(b"x #5 ( ; )", NameForm::TypeOnly, 1));
+    assert!(rt; taken(b"x #5 ( ; ))", NameForm::TypeOnly, 1));
+    assert!(rt; taken(b"x #5 (|| ; ||)", NameForm::NameAndType, 1));
+    assert!(rt;
+        taken(
+            b"x #5 (|a| ; |T|) (|b;c| ; |(U)|) (|d| ; |V|)",
+            NameForm::NameAndType,
+            3
+        )
+    );
+}
+
+// The refusals by number and word. 2: a pair of one word tells its own word, others the number of words on the line.
+#[test]
+fn refusals_2(rt: HostRuntime) {
+    assert_eq!(rt; told(b"x #5 (|a|)"), Some((2, 2)));
+    assert_eq!(rt; told(b"x #5 )"), Some((2, 2)));
+    assert_eq!(rt; told(b"x #5 |a|)"), Some((2, 2)));
+    assert_eq!(rt; told(b"x #5 (|f() |T|)"), Some((2, 2)));
+    assert_eq!(rt; told(b"x #5 (|a|;|T|) (|b|) (|c|;|U|)"), Some((2, 3)));
+    assert_eq!(rt; told(b"x #5 (;T) (U)"), Some((2, 3)));
+    assert_eq!(rt; told(b"x #5 (|a| |T|) (|b|"), Some((2, 5)));
+    assert_eq!(rt; told(b"x #5 (|a| |T|) |b|"), Some((2, 5)));
+    assert_eq!(rt; told(b"x #5 (|a|;|T|) "), Some((2, 4)));
+    assert_eq!(rt; told(b"x #5 (|a|"), Some((2, 3)));
+    assert_eq!(rt; told(b"x #5 (|a| |T|) "), Some((2, 5)));
+    assert_eq!(rt; told(b"x #5 (|a| ;"), Some((2, 4)));
+    assert_eq!(rt; told(b"x #5 |a| ;"), Some((2, 4)));
+    assert_eq!(rt; told(b"x #5 (|a| ; |T|) (|b| ;"), Some((2, 7)));
+    assert_eq!(rt; told(b"x #5 ( ; T) ( ;"), Some((2, 7)));
+    assert_eq!(rt; told(b"x #5 (|a| ; |T|) "), Some((2, 6)));
+}
+
+#[test]
+fn refusals_14(rt: HostRuntime) {
+    assert_eq!(rt; told(b"x #5"), Some((14, 2)));
+    let mut words = behind_id(b"x #5 (;T)");
+    assert!(rt; read_pair(&mut words, None, true).is_ok());
+    assert!(rt;
+        read_pair(&mut words, None, true).err()
+            == Some(PairRefusal {
+                fault: PairFault::NoPair,
+                word: 3,
+            })
+    );
+}
+
+#[test]
+fn refusals_15(rt: HostRuntime) {
+    assert_eq!(rt; told(b"x #5 |a|;|T|)"), Some((15, 2)));
+    assert_eq!(rt; told(b"x #5 (|a|;|T|;)"), Some((15, 2)));
+    assert_eq!(rt; told(b"x #5 (|a|;|T|) |b|;|U|)"), Some((15, 3)));
+    assert_eq!(rt; told(b"x #5 (|a|;|T|) (|b|;|U|;u)"), Some((15, 3)));
+    assert_eq!(rt; told(b"x #5 (;T) ;U)"), Some((15, 3)));
+    assert_eq!(rt; told(b"x #5 (;T) a;U)"), Some((15, 3)));
+    assert_eq!(rt; told(b"x #5 |a| |T|)"), Some((15, 2)));
+    assert_eq!(rt; told(b"x #5 (|a| |T|"), Some((15, 2)));
+    assert_eq!(rt; told(b"x #5 (|a|  |T|)"), Some((15, 2)));
+    assert_eq!(rt; told(b"x #5  (|a|;|T|)"), Some((15, 2)));
+    assert_eq!(rt; told(b"x #5 (|a| ;|T|"), Some((15, 2)));
+    assert_eq!(rt; told(b"x #5 (|a| |T|) |b| |U|)"), Some((15, 4)));
+    assert_eq!(rt; told(b"x #5 ( T) a U"), Some((15, 4)));
+    assert_eq!(rt; told(b"x #5 |a| ; |T|)"), Some((15, 2)));
+    assert_eq!(rt; told(b"x #5 (|a| ; |T|"), Some((15, 2)));
+    assert_eq!(rt; told(b"x #5 (|a| ; ;"), Some((15, 2)));
+    assert_eq!(rt; told(b"x #5 (|a| ; |T|) |b| ; |U|)"), Some((15, 5)));
+    assert_eq!(rt; told(b"x #5 (|a| ; |T|) (|b| ; |U|"), Some((15, 5)));
+    assert_eq!(rt; told(b"x #5 |a|;|T|) (|b| |U|)"), Some((15, 2)));
+}
+
+// A form is told before pieces, a third word, brackets, and what is said of types and bars.
+#[test]
+fn refusals_16(rt: HostRuntime) {
+    assert_eq!(rt; told(b"x #5 (|a|;|T|) (|b| |U|)"), Some((16, 3)));
+    assert_eq!(rt; told(b"x #5 (|a|;|T|) (|b| ; |U|)"), Some((16, 3)));
+    assert_eq!(rt; told(b"x #5 (|a| |T|) (|b|;|U|)"), Some((16, 4)));
+    assert_eq!(rt; told(b"x #5 (|a| |T|) (|b| ; |U|)"), Some((16, 4)));
+    assert_eq!(rt; told(b"x #5 (|a| ; |T|) (|b|;|U|)"), Some((16, 5)));
+    assert_eq!(rt; told(b"x #5 (|a| ; |T|) (|b| |U|)"), Some((16, 5)));
+    assert_eq!(rt; told(b"x #5 (|a|;|T|) (|b|;|U|) (|c| |V|)"), Some((16, 4)));
+    assert_eq!(rt; told(b"x #5 (;T) ( U)"), Some((16, 3)));
+    assert_eq!(rt; told(b"x #5 ( T) (;U)"), Some((16, 4)));
+    assert_eq!(rt; told(b"x #5 ( ; T) ( U)"), Some((16, 5)));
+    assert_eq!(rt; told(b"x #5 (;T) (|a| |U|)"), Some((16, 3)));
+    assert_eq!(rt; told(b"x #5 (|a|;|T|) (b ;"), Some((16, 3)));
+    assert_eq!(rt; told(b"x #5 (|a| ; |T|) )"), Some((16, 5)));
+    assert_eq!(rt; told(b"x #5 (|a| |T|) |b| ;"), Some((16, 4)));
+}
+
+#[test]
+fn refusals_17(rt: HostRuntime) {
+    assert_eq!(rt; told(b"x #5 (;T) (|a|;|U|)"), Some((17, 3)));
+    assert_eq!(rt; told(b"x #5 (;T) (a;U) (;V)"), Some((17, 3)));
+    assert_eq!(rt; told(b"x #5 (;T) (;U) (|a|;|V|)"), Some((17, 4)));
+    assert_eq!(rt; told(b"x #5 ( T) (|a| |U|)"), Some((17, 4)));
+    assert_eq!(rt; told(b"x #5 ( T) ( U) (a V)"), Some((17, 6)));
+    assert_eq!(rt; told(b"x #5 ( ; T) (|a| ; |U|)"), Some((17, 5)));
+    assert_eq!(rt; told(b"x #5 (;T) (a;U) (|b| |V|)"), Some((17, 3)));
+}
+
+#[test]
+fn refusals_18(rt: HostRuntime) {
+    assert_eq!(rt; told(b"x #5 (a;T)"), Some((18, 2)));
+    assert_eq!(rt; told(b"x #5 (a|;|T|)"), Some((18, 2)));
+    assert_eq!(rt; told(b"x #5 (|a;|T|)"), Some((18, 2)));
+    assert_eq!(rt; told(b"x #5 (|a|;T|)"), Some((18, 2)));
+    assert_eq!(rt; told(b"x #5 (|a|;|T)"), Some((18, 2)));
+    assert_eq!(rt; told(b"x #5 (|;|T|)"), Some((18, 2)));
+    assert_eq!(rt; told(b"x #5 (|a|;|)"), Some((18, 2)));
+    assert_eq!(rt; told(b"x #5 (|a|;)"), Some((18, 2)));
+    assert_eq!(rt; told(b"x #5 (|a|;|T|) (;U)"), Some((18, 3)));
+    assert_eq!(rt; told(b"x #5 (|a|;|T|) (b;|U|)"), Some((18, 3)));
+    assert_eq!(rt; told(b"x #5 (|a|;|T|) (|b|;|U|) (|c|;V)"), Some((18, 4)));
+    assert_eq!(rt; told(b"x #5 (a |T|)"), Some((18, 2)));
+    assert_eq!(rt; told(b"x #5 (|a| T)"), Some((18, 2)));
+    assert_eq!(rt; told(b"x #5 (|a| |T|) ( |U|)"), Some((18, 4)));
+    assert_eq!(rt; told(b"x #5 (|a| |T|) (|b| U)"), Some((18, 4)));
+    assert_eq!(rt; told(b"x #5 (a ; |T|)"), Some((18, 2)));
+    assert_eq!(rt; told(b"x #5 (|a| ; T)"), Some((18, 2)));
+    assert_eq!(rt; told(b"x #5 (|a| ; )"), Some((18, 2)));
+    assert_eq!(rt; told(b"x #5 (|a| ; |T|) ( ; |U|)"), Some((18, 5)));
+    assert_eq!(rt; told(b"x #5 (|a| ; |T|) (|b| ; U)"), Some((18, 5)));
+    assert_eq!(rt; told(b"x #5 (a;|T|) (|b| |U|)"), Some((18, 2)));
+    assert_eq!(rt; told(b"x #5 (a;|T|) |b|;|U|)"), Some((18, 2)));
+}
+
+// The number and the word of a refusal of one pair, after a first pair of the form `first`.
+fn pair_told(line: &[u8], first: Form, forms_equal: bool) -> Option<(u8, usize)> {
+    let mut words = behind_id(line);
+    read_pair(&mut words, Some(first), forms_equal)
+        .err()
+        .map(|refusal| (u8::from(refusal.fault), refusal.word))
+}
+
+#[test]
+fn forms_may_differ(rt: HostRuntime) {
+    assert_eq!(rt; pair_told(b"x #5 (a;b)", Form::OneWord, true), None);
+    assert_eq!(rt;
+        pair_told(b"x #5 (a;b)", Form::TwoWords, true),
+        Some((16, 2))
+    );
+    assert_eq!(rt; pair_told(b"x #5 (a;b)", Form::Apart, true), Some((16, 2)));
+    assert_eq!(rt; pair_told(b"x #5 (a;b)", Form::Apart, false), None);
+    assert_eq!(rt;
+        pair_told(b"x #5 (a b)", Form::OneWord, true),
+        Some((16, 2))
+    );
+    assert_eq!(rt; pair_told(b"x #5 (a b)", Form::TwoWords, true), None);
+    assert_eq!(rt; pair_told(b"x #5 (a b)", Form::Apart, true), Some((16, 2)));
+    assert_eq!(rt; pair_told(b"x #5 (a b)", Form::OneWord, false), None);
+    assert_eq!(rt;
+        pair_told(b"x #5 (a ; b)", Form::OneWord, true),
+        Some((16, 2))
+    );
+    assert_eq!(rt;
+        pair_told(b"x #5 (a ; b)", Form::TwoWords, true),
+        Some((16, 2))
+    );
+    assert_eq!(rt; pair_told(b"x #5 (a ; b)", Form::Apart, true), None);
+    assert_eq!(rt; pair_told(b"x #5 (a ; b)", Form::TwoWords, false), None);
+    assert_eq!(rt; pair_told(b"x #5 (a)", Form::Apart, false), Some((2, 2)));
+    assert_eq!(rt; pair_told(b"x #5 (a ;", Form::OneWord, false), Some((2, 4)));
+    assert_eq!(rt;
+        pair_told(b"x #5 a b)", Form::OneWord, false),
+        Some((15, 2))
+    );
+    assert_eq!(rt; pair_told(b"x #5", Form::OneWord, false), Some((14, 2)));
 }

@@ -12,6 +12,11 @@ const VERSIONS: &str =
     1.0.0+0.build.1-rc.10000aaa-kk-0.1 1.0.0-0A.is.legal \
     0.0.0-99999999999999999999999 18446744073709551615.18446744073709551615.18446744073709551615";
 
+// The examples of the clauses on numbers (2), pre-releases (9) and build metadata (10), and of the questions at the end.
+const CLAUSES: &str =
+    "1.9.0 1.10.0 1.11.0 1.0.0-alpha 1.0.0-alpha.1 1.0.0-0.3.7 1.0.0-x.7.z.92 1.0.0-x-y-z.-- 1.0.0-alpha+001 \
+    1.0.0+20130313144700 1.0.0-beta+exp.sha.5114f85 1.0.0+21AF26D3----117B344092BD 0.1.0 1.2.3";
+
 // Its list of texts that are no versions, a few more, and versions past the limit.
 const OTHERS: &str =
     "1 1.2 1.2.3-0123 1.2.3-0123.0123 1.1.2+.123 +invalid -invalid -invalid+invalid -invalid.01 alpha \
@@ -26,11 +31,61 @@ const CHAIN: &str =
     "1.0.0-alpha 1.0.0-alpha.1 1.0.0-alpha.beta 1.0.0-beta 1.0.0-beta.2 1.0.0-beta.11 1.0.0-rc.1 1.0.0 \
     2.0.0 2.1.0 2.1.1";
 
+// What its list has besides, and the text that its questions at the end name as none.
+const MORE_OTHERS: &str = "1.0.0-alpha.....1 1.0.0-alpha......1 1.0.0-alpha.......1 v1.2.3 \
+    99999999999999999999999.999999999999999999.99999999999999999 \
+    99999999999999999999999.999999999999999999.99999999999999999----RC-SNAPSHOT.12.09.1--------------------------------..12";
+
 #[test]
 fn takes_versions(rt: HostRuntime) {
     for text in VERSIONS.split(' ') {
         assert!(rt; parse_version(text.as_bytes()).is_some(), "{}", text);
     }
+}
+
+#[test]
+fn takes_the_examples_of_the_clauses(rt: HostRuntime) {
+    for text in CLAUSES.split(' ') {
+        assert!(rt; parse_version(text.as_bytes()).is_some(), "{}", text);
+    }
+}
+
+#[test]
+fn refuses_the_rest_of_the_list(rt: HostRuntime) {
+    for text in MORE_OTHERS.split(' ') {
+        assert!(rt; parse_version(text.as_bytes()).is_none(), "{}", text);
+    }
+}
+
+// Each number at 2^64 - 1 and at 2^64, also before a pre-release and build metadata; numbers of a pre-release have no limit.
+#[test]
+fn limits(rt: HostRuntime) {
+    assert!(rt;
+        precedence(b"18446744073709551615.0.0", b"18446744073709551614.9.9")
+            == Some(Ordering::Greater)
+    );
+    assert!(rt;
+        precedence(b"0.18446744073709551615.0", b"0.18446744073709551614.9")
+            == Some(Ordering::Greater)
+    );
+    assert!(rt;
+        precedence(b"0.0.18446744073709551615", b"0.0.18446744073709551614")
+            == Some(Ordering::Greater)
+    );
+    assert!(rt; parse_version(b"18446744073709551616.0.0-a+b").is_none());
+    assert!(rt; parse_version(b"0.18446744073709551616.0-a+b").is_none());
+    assert!(rt; parse_version(b"0.0.18446744073709551616-a+b").is_none());
+    assert!(rt; parse_version(b"0.0.018446744073709551615").is_none());
+    assert!(rt;
+        precedence(b"1.0.0-18446744073709551615", b"1.0.0-18446744073709551616")
+            == Some(Ordering::Less)
+    );
+    assert!(rt;
+        precedence(b"1.0.0-18446744073709551617", b"1.0.0-18446744073709551616")
+            == Some(Ordering::Greater)
+    );
+    assert!(rt; is_new(b"18446744073709551615.0.0") == Some(true));
+    assert!(rt; is_new(b"18446744073709551616.0.0") == None);
 }
 
 #[test]
@@ -72,6 +127,10 @@ fn chains(rt: HostRuntime) {
             assert!(rt; order == Some(i.cmp(&j)), "{}", b);
         }
     }
+    assert!(rt; precedence(b"1.9.0", b"1.10.0") == Some(Ordering::Less));
+    assert!(rt; precedence(b"1.10.0", b"1.11.0") == Some(Ordering::Less));
+    assert!(rt; precedence(b"1.0.0-alpha", b"1.0.0") == Some(Ordering::Less));
+    assert!(rt; precedence(b"1.0.0-alpha+001", b"1.0.0-alpha") == Some(Ordering::Equal));
     assert!(rt; precedence(b"1.0.0+a", b"1.0.0+b") == Some(Ordering::Equal));
     assert!(rt; precedence(b"1.0.0-0", b"1.0.0--") == Some(Ordering::Less));
     assert!(rt; precedence(b"1.0.0", b"1.0") == None);
