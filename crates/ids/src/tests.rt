@@ -86,6 +86,8 @@ fn printed(rt: HostRuntime) -> Result<(), Fail> {
     let large = NumberFault::TooLarge.to_string(alloc)?;
     assert!(rt; large.as_str() == "is over 4294967294");
     let inner = IdFault::Number(NumberFault::NotDigit(10)).to_string(alloc)?;
-    assert!(rt; inner.as_str() == "has a number after `#` that has a byte that is no digit at place 10");
+    assert!(rt;
+        inner.as_str() == "has a number after `#` that has a byte that is no digit at place 10"
+    );
     Ok(())
 }
