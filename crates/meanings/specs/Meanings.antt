@@ -1,10 +1,10 @@
 -- What a constant means, by the theory and the value on its line, and when two meanings are the same. Assumes nothing.
-use Rattle.std.specs.Prelude.{ℕ, cond, List, Ok, Result, codes}
+use Rattle.std.specs.Prelude.{ℕ, cond, List, [], ◌∷◌, Some, None, Ok, Option, Result, codes}
 use Rattle.std.specs.Result.{result_map_both}
 use Rattle.std.specs.Str.{bytes_eq}
 use Rattle.fraction.specs.Ratios.{Ratio}
 use Rattle.fraction.specs.Fractions.{ratio}
-use Rattle.words.specs.Joined.{spaces}
+use Rattle.words.specs.Joined.{spaces, unwords}
 use Rattle.arith.specs.Values.{arith_value}
 use Rattle.arith.specs.Faults.{value_fault_number}
 use Rattle.bitvec.specs.BitVecs.{bit_vec, vec_fault_number}
@@ -36,3 +36,9 @@ meaning_of theory value =
 abbrev pub fault_number : MeaningFault → ℕ
 fault_number (ArithFault f) = value_fault_number f
 fault_number (BitVecFault f) = vec_fault_number f
+
+-- what the words from the theory on say: the value is the words behind the theory joined by single spaces, the empty text if there is
+-- none; nothing is said where there is no theory
+abbrev pub words_say : List (List ℕ) → Option (Result Said MeaningFault)
+words_say [] = None
+words_say (theory ∷ value) = Some (meaning_of theory (unwords value))

@@ -2,19 +2,21 @@
 #![tactic(auto)]
 
 ghost use Rattle.std.specs.Prelude.{◌≡◌};
+ghost use Rattle.std.specs.Option.{option_map};
 ghost use Rattle.std.specs.Result.{result_map_both};
 ghost use Rattle.words.specs.Joined.{as_space, spaces};
+ghost use Rattle.words.specs.Words.{ahead};
 ghost use Rattle.meanings.specs.declared.MeaningFault.TheVariants.{Arith, BitVec};
 ghost use Rattle.std.specs.Cmp.{on_equiv, partial_equiv_from_equiv};
 ghost use Rattle.std.specs.Ordering.{on};
 ghost use Rattle.std.specs.Str.{bytes_eq};
-ghost use Rattle.meanings.specs.Meanings.{fault_number, meaning_of, said};
+ghost use Rattle.meanings.specs.Meanings.{fault_number, meaning_of, said, words_say};
 ghost use Rattle.meanings.specs.Same.{same, same_equiv};
 
 use arith::{ValueFault, parse_arith};
 use bitvec::{BitVec, BitVecFault, parse_bitvec};
 use fraction::terms::Fraction;
-use words::is_separator;
+use words::{Words, is_separator};
 
 // A number of the theory `arith`, a bit-vector of `bv`, or theory and value as texts. The value is a span of the line, in which each
 // separator stands for one space.
@@ -72,6 +74,15 @@ impl<'a> Meaning<'a> {
         } else {
             Ok(Meaning::Unknown { theory, value })
         }
+    }
+
+    // The meaning that the words of a line say from the theory on, none where there is no theory. Without a word behind it the value is
+    // the empty text.
+    pub fn of_words(mut words: Words<'a>) -> Option<Result<Meaning<'a>, MeaningFault>>
+        ensures { option_map (result_map_both said (λ e. e)) result ≡ words_say (ahead words.entry.left) }
+    {
+        let theory = words.next()?;
+        Some(Meaning::read(theory, words.rest_of_line().unwrap_or(b"")))
     }
 }
 

@@ -39,3 +39,26 @@ fn refusals_have_numbers(rt: HostRuntime) {
     assert_eq!(rt; number(b"bv", b"#x10000000000000000"), Some(12));
     assert_eq!(rt; number(b"seq", b""), None);
 }
+
+// The number that the words of a line from word 2 on are refused by, none where they are read or where there is no theory.
+fn number_of_words(line: &[u8]) -> Option<u8> {
+    let mut words = Words::of(line);
+    let _id = words.nth(1);
+    let read = Meaning::of_words(words)?;
+    read.err().map(|fault| u8::from(fault))
+}
+
+#[test]
+fn words_have_meanings(rt: HostRuntime) {
+    let number = Words::of(b"arith (/ 6\t4)");
+    assert!(rt; matches!(Meaning::of_words(number), Some(Ok(Meaning::Arith(_)))));
+    let line = Words::of(b"fp +zero 8  24");
+    let text = Meaning::Unknown {
+        theory: b"fp",
+        value: b"+zero 8  24",
+    };
+    assert!(rt; Meaning::of_words(line) == Some(Ok(text)));
+    assert_eq!(rt; number_of_words(b"[attach-meaning] #1 bv"), Some(10));
+    assert_eq!(rt; number_of_words(b"[attach-meaning] #1 fp"), None);
+    assert!(rt; Meaning::of_words(Words::of(b"fp")).is_some());
+}

@@ -80,9 +80,7 @@ pub(crate) fn read_meaning(line: &[u8]) -> Result<(), Fault> {
     let mut words = Words::of(line);
     let total = words.total();
     let id = words.nth(1).ok_or(Fault::Missing(total))?;
-    let theory = words.next().ok_or(Fault::Missing(total))?;
-    let value = words.rest_of_line().unwrap_or(b"");
-    Meaning::read(theory, value)?;
+    Meaning::of_words(words).ok_or(Fault::Missing(total))??;
     parse_id(id)?;
     Ok(())
 }
