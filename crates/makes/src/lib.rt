@@ -94,4 +94,29 @@ mod tests {
         assert!(rt; entries[4].taken);
         assert!(rt; !entries[5].taken);
     }
+
+    #[test]
+    fn table_alone(rt: HostRuntime) {
+        let mut slots = [None; 1];
+        let mut entries = [entry(None, 9, 1), entry(None, 10, 2), entry(None, 9, 3)];
+        let id = entries[0].id;
+        assert_eq!(rt; in_table(&mut slots, 77, &mut entries, id), Some(3));
+        assert!(rt; entries[0].taken);
+        assert!(rt; !entries[1].taken);
+        assert!(rt; entries[2].taken);
+    }
+
+    #[test]
+    fn front_over_front(rt: HostRuntime) {
+        let mut outer = [None; LOW];
+        let mut inner = [Some(8); LOW];
+        let mut entries = [entry(None, 4095, 1), entry(None, 4096, 2)];
+        let id = entries[1].id;
+        assert_eq!(rt;
+            in_two(&mut outer, &mut inner, &mut [], 77, &mut entries, id),
+            None
+        );
+        assert!(rt; entries[0].taken);
+        assert!(rt; !entries[1].taken);
+    }
 }
