@@ -44,7 +44,10 @@ same-self (vector v) = and_from (v.value == v.value) (v.bits == v.bits) (eq-eqb 
 same-self (texts t v) = and_from (bytes_eq t t) (bytes_eq v v) ((bytes_eq-Decides t t).1 refl) ((bytes_eq-Decides v v).1 refl)
 
 -- two meanings are the same exactly when they say the same
-pub same_decides : (a b : Said) → Decides (same a b) (a ≡ b)
+abbrev pub SameStands : Type 0
+SameStands = (a b : Said) → Decides (same a b) (a ≡ b)
+
+pub same_decides : SameStands
 same_decides a b = (same-is a b, λ e. subst (λ x. same a x ≡ true) e (same-self a))
 
 -- so it is an equivalence

@@ -11,7 +11,7 @@ ghost use Rattle.std.specs.Cmp.{on_equiv, partial_equiv_from_equiv};
 ghost use Rattle.std.specs.Ordering.{on};
 ghost use Rattle.std.specs.Str.{bytes_eq};
 ghost use Rattle.meanings.specs.Meanings.{fault_number, meaning_of, said, words_say};
-ghost use Rattle.meanings.specs.Same.{same, same_equiv};
+ghost use Rattle.meanings.specs.Same.{SameStands, same, same_equiv};
 
 use arith::{ValueFault, parse_arith};
 use bitvec::{BitVec, BitVecFault, parse_bitvec};
@@ -77,9 +77,10 @@ impl<'a> Meaning<'a> {
     }
 
     // The meaning that the words of a line say from the theory on, none where there is no theory. Without a word behind it the value is
-    // the empty text.
+    // the empty text. `alike` says of `==` that it holds exactly where two meanings say the same.
     pub fn of_words(mut words: Words<'a>) -> Option<Result<Meaning<'a>, MeaningFault>>
-        ensures { option_map (result_map_both said (λ e. e)) result ≡ words_say (ahead words.entry.left) }
+        ensures value { option_map (result_map_both said (λ e. e)) result ≡ words_say (ahead words.entry.left) }
+        ensures alike { SameStands }
     {
         let theory = words.next()?;
         Some(Meaning::read(theory, words.rest_of_line().unwrap_or(b"")))
