@@ -2,6 +2,7 @@
 use crate::failure::Failure;
 use crate::input;
 use crate::options::IndexOptions;
+use crate::output::Output;
 use front::front::{Front, LOW};
 use idents::ident::Ident;
 use ids::{IdText, parse_id, parse_number};
@@ -10,7 +11,7 @@ use index::table::term_table;
 use lines::{LineMode, Lines};
 use std::alloc::{AllocError, Global};
 use std::collections::BTreeMap;
-use std::io::{BufWriter, Write};
+use std::io::Write;
 use std::time::{SystemTime, UNIX_EPOCH};
 use std::{fmt, io};
 use words::Words;
@@ -132,14 +133,16 @@ impl<I: TermIdToIdxMap> Session<I> {
         })
     }
 
-    // Only an entry that is taken keeps its namespace.
+    // Only an entry that is taken keeps its namespace. Memory is taken for a new one alone.
     fn keep(&mut self, namespace: Option<&[u8]>) -> Result<(), AllocError> {
         let Some(text) = namespace else {
             return Ok(());
         };
-        let next = self.namespaces.len();
-        let text = Vec::from_slice(self.heap, text)?;
-        self.namespaces.entry(text)?.or_insert(next);
+        if !self.namespaces.contains_key(text) {
+            let next = self.namespaces.len();
+            let text = Vec::from_slice(self.heap, text)?;
+            self.namespaces.insert(text, next)?;
+        }
         Ok(())
     }
 
@@ -166,8 +169,8 @@ impl<I: TermIdToIdxMap> Session<I> {
 }
 
 // All commands, and how many identifiers are held in the end. A blank line asks nothing.
-fn commands<W: Write, I: TermIdToIdxMap>(
-    out: &mut W,
+fn commands<I: TermIdToIdxMap>(
+    out: &mut Output<'_>,
     session: &mut Session<I>,
     lines: Lines<'_>,
 ) -> io::Result<()> {
@@ -182,32 +185,35 @@ fn commands<W: Write, I: TermIdToIdxMap>(
                 writeln!(out, "{number}: {answer}")?;
             }
         }
+        out.pass_on()?;
     }
     writeln!(out, "held: {}", session.index.held())
 }
 
-// A seed that differs from run to run, so that no list of identifiers can be made to collide.
-fn seed_of_now(rt: &HostRuntime) -> io::Result<u64> {
-    let since = SystemTime::now(rt)?.duration_since(UNIX_EPOCH);
-    let nanos = since.map_or(0, |time| time.as_nanos());
-    Ok((nanos & u128::from(u64::MAX)) as u64)
+// A seed that differs from run to run, so that no list of identifiers can be made to collide; 0 where the clock tells no time since its
+// start.
+fn seed_of_now(rt: &HostRuntime) -> u64 {
+    let Ok(now) = SystemTime::now(rt) else {
+        return 0;
+    };
+    let nanos = now
+        .duration_since(UNIX_EPOCH)
+        .map_or(0, |time| time.as_nanos());
+    (nanos & u128::from(u64::MAX)) as u64
 }
 
 fn over_front(rt: &HostRuntime, wanted: IndexOptions, bytes: &[u8]) -> io::Result<()> {
     let heap = rt.alloc();
     let mut slots = vec![in heap; None; wanted.slots]?;
     let mut orders = [None; LOW];
-    let seed = match wanted.seed {
-        Some(seed) => seed,
-        None => seed_of_now(rt)?,
-    };
+    let seed = wanted.seed.unwrap_or_else(|| seed_of_now(rt));
     let mut table = term_table(&mut slots, seed);
     let mut session = Session {
         index: Front::new(&mut orders, &mut table),
         namespaces: BTreeMap::new(heap),
         heap,
     };
-    let mut out = BufWriter::new(heap, rt.stdout())?;
+    let mut out = Output::new(rt);
     commands(&mut out, &mut session, Lines::of(bytes, LineMode::EachLine))?;
     out.flush()
 }

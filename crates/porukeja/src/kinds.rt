@@ -3,19 +3,17 @@ use crate::failure::Failure;
 use crate::input;
 use crate::names_line::{AppLine, QuantLine};
 use crate::options::KindsOptions;
+use crate::output::Output;
 use census::{BadId, Census, IdCause, LineClass, classify, count_lines};
 use lines::{Lines, cut_off};
 use std::alloc::Global;
-use std::io::{BufWriter, Write};
+use std::io::Write;
 use std::{fmt, io};
 use version::is_new;
 use words::{KINDS, LineKind, Words};
 
 // How many bad identifiers are shown.
 const SHOWN: usize = 3;
-
-// Bytes are handed to stdout so many at a time.
-const GATHERED: usize = 65_536;
 
 // How many lines there are of each kind, and what else was counted.
 fn summary<W: Write>(out: &mut W, found: &Census) -> io::Result<()> {
@@ -65,7 +63,7 @@ fn told<W: Write, T: fmt::Display + Drop, E: fmt::Display + Drop>(
 }
 
 // Identifier, name and child words of each `[mk-app]` and `[mk-quant]` line.
-fn all_names<W: Write>(out: &mut W, heap: Global, lines: Lines<'_>) -> io::Result<()> {
+fn all_names(out: &mut Output<'_>, heap: Global, lines: Lines<'_>) -> io::Result<()> {
     let mut scratch = vec![in heap; 0u8; 65_538]?;
     let mut new_style = false;
     for (line, number) in lines.zip(0u64..) {
@@ -81,13 +79,14 @@ fn all_names<W: Write>(out: &mut W, heap: Global, lines: Lines<'_>) -> io::Resul
             }
             _ => {}
         }
+        out.pass_on()?;
     }
     Ok(())
 }
 
 fn print(rt: &HostRuntime, wanted: KindsOptions<'_>, bytes: &[u8]) -> io::Result<()> {
     let heap = rt.alloc();
-    let mut out = BufWriter::with_capacity(heap, GATHERED, rt.stdout())?;
+    let mut out = Output::new(rt);
     let mut bad = [BadId {
         line: 0,
         cause: IdCause::Missing,

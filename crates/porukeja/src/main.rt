@@ -7,6 +7,7 @@ mod input;
 mod kinds;
 mod names_line;
 mod options;
+mod output;
 mod shown;
 #[cfg(test)]
 mod tests;

@@ -1,14 +1,73 @@
 // How texts of the trace are printed: a space, a backslash and every byte outside printable ASCII as \xNN, and an empty text as "".
 use ids::IdText;
-use std::fmt;
+use std::{fmt, str};
 use words::{Joined, Words};
 
-fn show_byte<W: fmt::Write>(f: &mut fmt::Formatter<W>, b: u8) -> fmt::Result {
-    if b.is_ascii_graphic() && b != b'\\' {
-        f.write_char(char::from(b))
-    } else {
-        write!(f, "\\x{b:02x}")
+// So many bytes are gathered before they are handed to a formatter.
+const GATHERED: usize = 64;
+
+// ASCII bytes for a formatter, which takes a piece of text at a time: a piece costs it much more than a byte.
+#[derive(Drop)]
+struct Gathering<'f, W> {
+    to: &'f mut fmt::Formatter<W>,
+    held: [u8; GATHERED],
+    len: usize,
+}
+
+impl<'f, W: fmt::Write> Gathering<'f, W> {
+    fn new(to: &'f mut fmt::Formatter<W>) -> Gathering<'f, W> {
+        Gathering {
+            to,
+            held: [0; GATHERED],
+            len: 0,
+        }
     }
+
+    fn hand_on(&mut self) -> fmt::Result {
+        let n = self.len.min(GATHERED);
+        self.len = 0;
+        match str::from_utf8(&self.held[..n]) {
+            Ok(text) => self.to.write_str(text),
+            Err(_) => Err(fmt::Error),
+        }
+    }
+
+    fn ascii(&mut self, b: u8) -> fmt::Result {
+        if self.len >= GATHERED {
+            self.hand_on()?;
+        }
+        if self.len < GATHERED {
+            self.held[self.len] = b;
+            self.len += 1;
+        }
+        Ok(())
+    }
+
+    // One byte of a text.
+    fn byte(&mut self, b: u8) -> fmt::Result {
+        if b.is_ascii_graphic() && b != b'\\' {
+            return self.ascii(b);
+        }
+        self.ascii(b'\\')?;
+        self.ascii(b'x')?;
+        self.ascii(hex(b >> 4))?;
+        self.ascii(hex(b & 0x0f))
+    }
+
+    fn text(&mut self, text: &[u8]) -> fmt::Result {
+        if text.is_empty() {
+            self.ascii(b'"')?;
+            return self.ascii(b'"');
+        }
+        for b in text {
+            self.byte(*b)?;
+        }
+        Ok(())
+    }
+}
+
+fn hex(digit: u8) -> u8 {
+    char::from_digit(u32::from(digit), 16).map_or(b'?', |c| c as u8)
 }
 
 // A part of a line.
@@ -17,13 +76,9 @@ pub(crate) struct Shown<'a>(pub &'a [u8]);
 
 impl<'a> fmt::Display for Shown<'a> {
     fn fmt<W: fmt::Write>(&self, f: &mut fmt::Formatter<W>) -> fmt::Result {
-        if self.0.is_empty() {
-            return f.write_str("\"\"");
-        }
-        for b in self.0 {
-            show_byte(f, *b)?;
-        }
-        Ok(())
+        let mut shown = Gathering::new(f);
+        shown.text(self.0)?;
+        shown.hand_on()
     }
 }
 
@@ -53,10 +108,11 @@ impl<'a> fmt::Display for ShownJoined<'a> {
         if text.len() == 0 {
             return f.write_str("\"\"");
         }
+        let mut shown = Gathering::new(f);
         for b in (0..text.len()).filter_map(|i| text.byte(i)) {
-            show_byte(f, b)?;
+            shown.byte(b)?;
         }
-        Ok(())
+        shown.hand_on()
     }
 }
 
@@ -67,13 +123,16 @@ pub(crate) struct ShownWords<'a>(pub Words<'a>);
 impl<'a> fmt::Display for ShownWords<'a> {
     fn fmt<W: fmt::Write>(&self, f: &mut fmt::Formatter<W>) -> fmt::Result {
         let mut words = self.0;
-        f.write_str("[")?;
+        let mut shown = Gathering::new(f);
+        shown.ascii(b'[')?;
         if let Some(first) = words.next() {
-            write!(f, "{}", Shown(first))?;
+            shown.text(first)?;
         }
         for word in words {
-            write!(f, " {}", Shown(word))?;
+            shown.ascii(b' ')?;
+            shown.text(word)?;
         }
-        f.write_str("]")
+        shown.ascii(b']')?;
+        shown.hand_on()
     }
 }
