@@ -45,6 +45,17 @@ here alone s (Some i) lt o h = grind (arith, at_first alone s lt, before alone s
 later : (alone : Bool) (s : List ℕ) (n k : ℕ) → ends_at alone (drop n s) k ≡ ends_at alone s (n + k)
 later alone s n k = grind (arith, get_or-drop n s k 0, drop-drop (k + 1) n s)
 
+-- none of the first n bytes is an LF that ends the line
+abbrev pub Searched : Bool → List ℕ → ℕ → Type 0
+Searched alone s n = (k : ℕ) → k < n → k < length s → ends_at alone s k ≡ false
+
+-- nor is one up to the next LF
+pub searched_to : (alone : Bool) (s : List ℕ) (from n : ℕ) → Searched alone s from → n ≡ line_len (drop from s) → Searched alone s (from + n)
+searched_to alone s from n h e k lt within = grind (arith, h k, before alone (drop from s) (k - from), later alone s from (k - from))
+
+pub searched_on : (alone : Bool) (s : List ℕ) (from n : ℕ) → Searched alone s from → n ≡ line_len (drop from s) → (from + n < length s → ends_at alone s (from + n) ≡ false) → Searched alone s (from + n + 1)
+searched_on alone s from n h e last k lt within = grind (arith, searched_to alone s from n h e k, last)
+
 shift : (alone : Bool) (s : List ℕ) (n : ℕ) (r : Option ℕ) → ((k : ℕ) → k < n → ends_at alone s k ≡ false) → IsFirst alone s r → (q : Option ℕ) × IsFirst alone (drop n s) q × (r ≡ option_map (λ j. n + j) q)
 shift alone s n None f h = (None, (λ k lt. grind (arith, later alone s n k, h (n + k), length-drop n s)), refl)
 shift alone s n (Some i) f h =

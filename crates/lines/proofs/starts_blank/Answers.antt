@@ -1,16 +1,23 @@
-use Rattle.std.proofs.Common.{not, ◌&&◌, refl, ◌∙◌, rules, tests}
-use Rattle.std.specs.List.{list_all}
-use Rattle.std.proofs.lemmas.List.Recursion.{same_from_clauses}
-use Rattle.std.proofs.lemmas.Iterator.{YieldsList-from_slice}
-use Rattle.std.proofs.lemmas.Iterator.Consumers.{YieldsList-at}
-use Rattle.std.proofs.lemmas.Iterator.Search.{all_from_yields_List, YieldsList-from_take_while}
-use Rattle.words.specs.Words.{separates}
-use Rattle.lines.specs.Lines.{is_lf, blank, front}
+use Rattle.std.proofs.Common.{◌≡◌, ℕ, ◌+◌, ◌<◌, ◌∷◌, List, length, get_or, drop, arith}
+use Rattle.std.specs.List.{find}
+use Rattle.std.proofs.lemmas.List.{at_drop_more, at_drop_all}
+use Rattle.lines.proofs.Blank.{stops, told, front_told}
 use Rattle.lines.proofs.starts_blank.Goals as goal
 
+next : (s : List ℕ) (i : ℕ) → i < length s → told (find stops (drop i s)) ≡ told (find stops (get_or s i 0 ∷ drop (i + 1) s))
+next s i h = at_drop_more (λ l. told (find stops l)) s i 0 h
+
+pub loop-b-init : goal.loop-b-init
+loop-b-init c = front_told c.args.s.now
+
+pub returns-then-b-eq10 : goal.returns-then-b-eq10
+returns-then-b-eq10 c = grind (arith, next c.args.s.now c.loop-b.b-index c.loop-b-test.true, c.loop-b.invariant, c.if-b-eq10.true)
+
+pub returns-then-not-is_separator : goal.returns-then-not-is_separator
+returns-then-not-is_separator c = grind (arith, next c.args.s.now c.loop-b.b-index c.loop-b-test.true, c.loop-b.invariant, c.if-b-eq10.false, c.if-not-is_separator.ensures)
+
+pub loop-b-preserved : goal.loop-b-preserved
+loop-b-preserved c = grind (arith, next c.args.s.now c.loop-b.b-index c.loop-b-test.true, c.loop-b.invariant, c.if-b-eq10.false, c.if-not-is_separator.ensures)
+
 pub returns : goal.returns
-returns c =
-    all_from_yields_List separates _ _ _ c.all.ensures.ran
-    (YieldsList-from_take_while _ (λ b. not (is_lf b)) (YieldsList-at c.take_while.ensures.source (YieldsList-from_slice c.args.s.now cc)) c.take_while.ensures.closure c.take_while.ensures.done (λ x b q k. search (rules, tests)))
-    (λ x b q k. search (rules, tests))
-    ∙ same_from_clauses (list_all separates) blank (λ x t. separates x && t) refl (λ _ _. refl) (λ _ _. refl) (front c.args.s.now)
+returns c = grind (arith, at_drop_all (λ l. told (find stops l)) c.args.s.now c.loop-b.b-index c.loop-b-test.false, c.loop-b.invariant)
