@@ -13,8 +13,12 @@ use Rattle.front.specs.Lows.{listed-low, low-apart, low_same}
 same_kept : (m n : Kept Ident) → ((i : Ident) → m.has i ≡ n.has i) → m.count ≡ n.count → m ≡ n
 same_kept m n has count j = record { has = fun_ext has j; count = count j }
 
+-- the front keeps none that no index may hold
+pub frontal-proper : (i : Ident) → proper_ident i ≡ false → frontal i ≡ false
+frontal-proper i bad = grind (arith, common_steps)
+
 -- what the front keeps is the identifier of its order
-low-is : (i : Ident) → frontal i ≡ true → low i.order ≡ i
+pub low-is : (i : Ident) → frontal i ≡ true → low i.order ≡ i
 low-is i t = grind (arith, common_steps)
 
 module _ (orders : List (Option ℕ)) (m : Names Ident ℕ) (clear : Clear m) where
