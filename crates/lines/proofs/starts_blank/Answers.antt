@@ -10,14 +10,5 @@ next s i h = at_drop_more (λ l. told (find stops l)) s i 0 h
 pub loop-b-init : goal.loop-b-init
 loop-b-init c = front_told c.args.s.now
 
-pub returns-then-b-eq10 : goal.returns-then-b-eq10
-returns-then-b-eq10 c = grind (arith, next c.args.s.now c.loop-b.b-index c.loop-b-test.true, c.loop-b.invariant, c.if-b-eq10.true)
-
-pub returns-then-not-is_separator : goal.returns-then-not-is_separator
-returns-then-not-is_separator c = grind (arith, next c.args.s.now c.loop-b.b-index c.loop-b-test.true, c.loop-b.invariant, c.if-b-eq10.false, c.if-not-is_separator.ensures)
-
-pub loop-b-preserved : goal.loop-b-preserved
-loop-b-preserved c = grind (arith, next c.args.s.now c.loop-b.b-index c.loop-b-test.true, c.loop-b.invariant, c.if-b-eq10.false, c.if-not-is_separator.ensures)
-
 pub returns : goal.returns
 returns c = grind (arith, at_drop_all (λ l. told (find stops l)) c.args.s.now c.loop-b.b-index c.loop-b-test.false, c.loop-b.invariant)
